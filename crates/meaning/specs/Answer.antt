@@ -1,0 +1,65 @@
+-- Answers and refusals, and what each case of the code's answers is in the paper's numbers and values.
+use Prim.Native.Nat.{ℕ}
+use mathlib.Core.Option.{Option, none, some}
+use Rattle.meaning.specs.declared.Endianness.{Endianness}
+use Rattle.meaning.specs.declared.Coordinate.{Coordinate}
+use Rattle.meaning.specs.declared.Refusal.{Refusal}
+use Rattle.meaning.specs.declared.Refusal.the-variants.{TooLong, PastEnd, ByteOrder, TypeCode, WrongChild, ChildSrid, TooDeep, TooFewRows, Unsound, NotThere, OutputTooShort}
+use Rattle.meaning.specs.declared.ReadAnswer.{ReadAnswer}
+use Rattle.meaning.specs.declared.OrdinateAnswer.{OrdinateAnswer}
+use Rattle.meaning.specs.declared.CoordinateAnswer.{CoordinateAnswer}
+use Rattle.meaning.specs.declared.FormAnswer.{FormAnswer}
+use Rattle.meaning.specs.declared.ChildAnswer.{ChildAnswer}
+use Rattle.meaning.specs.declared.SridAnswer.{SridAnswer}
+use Rattle.meaning.specs.declared.WriteAnswer.{WriteAnswer}
+
+-- "Each refusal returns number and place"
+pub data Answer (A : Type 0) : Type 0 where
+  refused : ℕ → ℕ → Answer A
+  answered : A → Answer A
+
+-- the table of refusal numbers
+abbrev pub refusal : {A : Type 0} → Refusal → Answer A
+refusal TooLong = refused 1 0
+refusal (PastEnd p) = refused 2 (p .0)
+refusal (ByteOrder p) = refused 3 (p .0)
+refusal (TypeCode p) = refused 4 (p .0)
+refusal (WrongChild p) = refused 5 (p .0)
+refusal (ChildSrid p) = refused 6 (p .0)
+refusal (TooDeep p) = refused 7 (p .0)
+refusal (TooFewRows n) = refused 8 n
+refusal (Unsound r) = refused 9 (r .0)
+refusal (NotThere n) = refused 10 n
+refusal (OutputTooShort n) = refused 11 n
+
+-- prefix length and rows
+abbrev pub readMeant : ReadAnswer → Answer (ℕ × ℕ)
+readMeant (ReadAnswer.Accepted n r) = answered (n, r)
+readMeant (ReadAnswer.Refused x) = refusal x
+
+abbrev pub ordinateMeant : OrdinateAnswer → Answer ℕ
+ordinateMeant (OrdinateAnswer.Bits x) = answered x
+ordinateMeant (OrdinateAnswer.Refused x) = refusal x
+
+abbrev pub coordinateMeant : CoordinateAnswer → Answer Coordinate
+coordinateMeant (CoordinateAnswer.At c) = answered c
+coordinateMeant (CoordinateAnswer.Refused x) = refusal x
+
+-- order and count
+abbrev pub formMeant : FormAnswer → Answer (Endianness × ℕ)
+formMeant (FormAnswer.Form o n) = answered (o, n)
+formMeant (FormAnswer.Refused x) = refusal x
+
+abbrev pub childMeant : ChildAnswer → Answer ℕ
+childMeant (ChildAnswer.Child r) = answered (r .0)
+childMeant (ChildAnswer.Refused x) = refusal x
+
+abbrev pub sridMeant : SridAnswer → Answer (Option ℕ)
+sridMeant SridAnswer.NoSrid = answered none
+sridMeant (SridAnswer.Srid s) = answered (some s)
+sridMeant (SridAnswer.Refused x) = refusal x
+
+-- the length written
+abbrev pub writeMeant : WriteAnswer → Answer ℕ
+writeMeant (WriteAnswer.Written n) = answered n
+writeMeant (WriteAnswer.Refused x) = refusal x
