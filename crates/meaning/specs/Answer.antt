@@ -5,6 +5,8 @@ use Rattle.meaning.specs.declared.Endianness.{Endianness}
 use Rattle.meaning.specs.declared.Coordinate.{Coordinate}
 use Rattle.meaning.specs.declared.Refusal.{Refusal}
 use Rattle.meaning.specs.declared.Refusal.the-variants.{TooLong, PastEnd, ByteOrder, TypeCode, WrongChild, ChildSrid, TooDeep, TooFewRows, Unsound, NotThere, OutputTooShort}
+use Rattle.meaning.specs.declared.WkbType.{WkbType}
+use Rattle.meaning.specs.declared.TypeAnswer.{TypeAnswer}
 use Rattle.meaning.specs.declared.ReadAnswer.{ReadAnswer}
 use Rattle.meaning.specs.declared.OrdinateAnswer.{OrdinateAnswer}
 use Rattle.meaning.specs.declared.CoordinateAnswer.{CoordinateAnswer}
@@ -31,6 +33,11 @@ refusal (TooFewRows n) = refused 8 n
 refusal (Unsound r) = refused 9 (r .0)
 refusal (NotThere n) = refused 10 n
 refusal (OutputTooShort n) = refused 11 n
+
+-- what a type code says, if it is allowed
+abbrev pub typeMeant : TypeAnswer → Option WkbType
+typeMeant (TypeAnswer.Known t) = some t
+typeMeant TypeAnswer.NotAllowed = none
 
 -- prefix length and rows
 abbrev pub readMeant : ReadAnswer → Answer (ℕ × ℕ)

@@ -1,12 +1,13 @@
 -- Dimensions, which ordinate is X, Y, Z or M, and type codes.
 use Prim.Native.Nat.{ℕ, zero, suc, _+_, _*_, _/_, _%_}
 use mathlib.Core.List.{List, [], _∷_}
-use mathlib.Core.Bool.{Bool, false, _&&_, cond}
+use mathlib.Core.Bool.{Bool, true, false, _&&_, cond}
 use mathlib.Core.Option.{Option, none, some}
 use lib.ListN.{length}
 use lib.Dec.{leb, ltb, eqb}
 use Rattle.meaning.specs.declared.Dimension.{Dimension}
 use Rattle.meaning.specs.declared.Dimension.the-variants.{Xy, Xyz, Xym, Xyzm}
+use Rattle.meaning.specs.declared.WkbType.{WkbType}
 
 -- "A coordinate is X, Y, then Z if carried, then M if carried; so in Xym the third number is M." Axes: "X 0, Y 1, Z 2, M 3"
 abbrev pub axes : Dimension → List ℕ
@@ -31,12 +32,6 @@ dimensionOf zero = Xy
 dimensionOf (suc zero) = Xyz
 dimensionOf (suc (suc zero)) = Xym
 dimensionOf (suc (suc (suc n))) = Xyzm
-
--- what a type code says: kind 1 to 7, dimension, and whether four bytes of SRID follow
-pub record WkbType : Type 0 where
-  pub kind : ℕ
-  pub dimension : Dimension
-  pub srid : Bool
 
 -- "Flags: Z 0x80000000, M 0x40000000, SRID 0x20000000": the three highest of the code's 32 bits
 abbrev pub flag : ℕ → ℕ → ℕ

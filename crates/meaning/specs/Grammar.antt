@@ -8,8 +8,9 @@ use lib.ListN.{length}
 use lib.Dec.{leb, ltb, eqb}
 use Rattle.meaning.specs.declared.Endianness.{Endianness}
 use Rattle.meaning.specs.declared.Dimension.{Dimension}
+use Rattle.meaning.specs.declared.WkbType.{WkbType}
 use Rattle.meaning.specs.Number.{orderByte, bytesOf}
-use Rattle.meaning.specs.Code.{size, dimensionNumber, WkbType, typeOf}
+use Rattle.meaning.specs.Code.{size, dimensionNumber, typeOf}
 
 -- what opens a geometry: kind (0 for a ring), dimension, byte order, type code (0 for a ring), SRID
 pub record Header : Type 0 where

@@ -7,8 +7,9 @@ use lib.ListN.{length, take, drop}
 use lib.Dec.{leb, eqb}
 use Rattle.meaning.specs.declared.Endianness.{Endianness}
 use Rattle.meaning.specs.declared.Endianness.the-variants.{BigEndian, LittleEndian}
+use Rattle.meaning.specs.declared.WkbType.{WkbType}
 use Rattle.meaning.specs.Number.{value, number}
-use Rattle.meaning.specs.Code.{size, WkbType, typeOf}
+use Rattle.meaning.specs.Code.{size, typeOf}
 use Rattle.meaning.specs.Grammar.{Header, Ordinates, Forest, empty, first, Place, rings, geometries, outermost, inside, ringHeader, fits, sridFits, tooDeep, holdsCoordinates}
 use Rattle.meaning.specs.Answer.{Answer, refused, answered}
 

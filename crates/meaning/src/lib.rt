@@ -13,6 +13,18 @@ pub enum Dimension {
     Xyzm,
 }
 
+// What a type code says: kind 1 to 7, dimension, and whether an SRID follows.
+pub struct WkbType {
+    pub kind: usize,
+    pub dimension: Dimension,
+    pub srid: bool,
+}
+
+pub enum TypeAnswer {
+    Known(WkbType),
+    NotAllowed,
+}
+
 // The number of a row of the table. Not an offset: each has its own type, so that neither is taken for the other.
 pub struct Row(pub usize);
 
