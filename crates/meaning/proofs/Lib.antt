@@ -1,1 +1,9 @@
+pub mod Lists
+pub mod Numbers
+pub mod Coordinates
+pub mod Codes
+pub mod Fields
+pub mod Headers
+pub mod Bodies
+pub mod Exact
 pub mod Samples

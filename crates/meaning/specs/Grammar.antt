@@ -9,7 +9,7 @@ use lib.Dec.{leb, ltb, eqb}
 use Rattle.meaning.specs.declared.Endianness.{Endianness}
 use Rattle.meaning.specs.declared.Dimension.{Dimension}
 use Rattle.meaning.specs.declared.WkbType.{WkbType}
-use Rattle.meaning.specs.Number.{orderByte, bytesOf}
+use Rattle.meaning.specs.Number.{Each, orderByte, bytesOf}
 use Rattle.meaning.specs.Code.{size, dimensionNumber, typeOf}
 
 -- what opens a geometry: kind (0 for a ring), dimension, byte order, type code (0 for a ring), SRID
@@ -159,10 +159,6 @@ ringHeader o d = record { kind = 0; dimension = d; order = o; code = 0; srid = n
 abbrev pub HeaderAt : Place → ℕ → Header → Type 0
 HeaderAt (rings o d) l h = h ≡ ringHeader o d
 HeaderAt (geometries a) l h = GeometryHeader a l h
-
-abbrev pub Each : {A : Type 0} → (A → Type 0) → List A → Type 0
-Each P [] = Unit
-Each P (x ∷ xs) = P x × Each P xs
 
 -- a coordinate has the dimension's ordinates, of 64 bits each
 abbrev pub OrdinatesOf : Dimension → Ordinates → Type 0

@@ -1,7 +1,7 @@
 -- Byte orders, and numbers of any width in either order.
 use Prim.Native.Nat.{ℕ, zero, suc, _+_, _*_, _/_, _%_, _<_}
 use mathlib.Core.List.{List, [], _∷_, reverse}
-use lib.ListN.{take, drop, getD}
+use lib.ListN.{take, drop}
 use Rattle.meaning.specs.declared.Endianness.{Endianness}
 use Rattle.meaning.specs.declared.Endianness.the-variants.{BigEndian, LittleEndian}
 
@@ -10,9 +10,13 @@ abbrev pub orderByte : Endianness → ℕ
 orderByte BigEndian = 0
 orderByte LittleEndian = 1
 
+abbrev pub Each : {A : Type 0} → (A → Type 0) → List A → Type 0
+Each P [] = Unit
+Each P (x ∷ xs) = P x × Each P xs
+
 -- a list of bytes
 abbrev pub Bytes : List ℕ → Type 0
-Bytes b = (i : ℕ) → getD b i 0 < 256
+Bytes bs = Each (λ b. b < 256) bs
 
 -- the number whose digits to the base 256 these are, the lowest first
 unfoldable pub value : List ℕ → ℕ

@@ -57,13 +57,9 @@ abbrev pub coordinatesIn : Endianness → ℕ → ℕ → List ℕ → List Ordi
 coordinatesIn o s n bs = map (λ c. map (number o) (pieces 8 s c)) (pieces (8 * s) n bs)
 
 module _ (b : List ℕ) where
-  abbrev spanIf : Bool → ℕ → Reader (List ℕ)
-  spanIf true w = λ at. answered (take w (drop at b), at + w)
-  spanIf false w = λ at. refused 2 at
-
   -- the w bytes from here on. "2: a field or coordinate run goes past the buffer; its first byte"
   unfoldable pub span : ℕ → Reader (List ℕ)
-  span w = λ at. spanIf (leb w (length b - at)) w at
+  span w = λ at. cond (leb w (length b - at)) (answered (take w (drop at b), at + w)) (refused 2 at)
 
   abbrev pub num : Endianness → ℕ → Reader ℕ
   num o w = do
@@ -99,13 +95,9 @@ module _ (b : List ℕ) where
     s ← srid (t .srid) o
     give (record { kind = t .kind; dimension = t .dimension; order = o; code = c; srid = s })
 
-  abbrev countIf : Bool → Endianness → Reader ℕ
-  countIf true o = give 1
-  countIf false o = num o 4
-
   -- "2 for the count"; a Point has none, and one coordinate
   abbrev pub countOf : Header → Reader ℕ
-  countOf h = countIf (eqb (h .kind) 1) (h .order)
+  countOf h = cond (eqb (h .kind) 1) (give 1) (num (h .order) 4)
 
   -- "2 for .. a Point's ordinates", or another coordinate run, tested whole
   abbrev pub run : Header → ℕ → Reader (List Ordinates)
