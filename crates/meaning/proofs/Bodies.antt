@@ -54,10 +54,11 @@ module _ (b : List ℕ) where
         let (f, l, t) = span-from b (8 * s * n) at z z₁ in
         let q : Bytes (z .0) = subst Bytes (sym t) (each-take (λ x. x < 256) (8 * s * n) (drop at b) (each-drop (λ x. x < 256) at b bytes)) in
         let i : (coordinatesIn (h .order) s n (z .0), z .1) ≡ y = cc in
-        subst (λ (w : List Ordinates × ℕ). From b at (ordinateBytes (h .order) (w .0)) (w .1) × (length (w .0) ≡ n) × Each (OrdinatesOf (h .dimension)) (w .0)) i
-        (subst (λ (bs : List ℕ). From b at bs (z .1)) (sym (bytes-read (h .order) s n (z .0) l q)) f
-        , count-read (h .order) s n (z .0)
-        , sized-read (h .order) s n (z .0) l q))
+        subst (λ (w : List Ordinates × ℕ). From b at (ordinateBytes (h .order) (w .0)) (w .1) × (length (w .0) ≡ n) × Each (OrdinatesOf (h .dimension)) (w .0)) i (
+          subst (λ (bs : List ℕ). From b at bs (z .1)) (sym (bytes-read (h .order) s n (z .0) l q)) f,
+          count-read (h .order) s n (z .0),
+          sized-read (h .order) s n (z .0) l q,
+        ))
 
 -- ---- counts
 

@@ -13,9 +13,10 @@ use Rattle.meaning.proofs.Numbers.{length-bytesOf, number-bytesOf, byte
 module _ (o : Endianness) where
   -- an ordinate in its eight bytes
   ordinate : (bs : List ℕ) → length bs ≡ 8 → Bytes bs → (bytesOf o 8 (number o bs) ≡ bs) × (number o bs < 2 ^ 64)
-  ordinate bs l q =
-      (ap (λ (w : ℕ). bytesOf o w (number o bs)) (sym l) ∙ bytesOf-number o bs q
-      , subst (λ (w : ℕ). number o bs < 256 ^ w) l (number-below o bs q))
+  ordinate bs l q = (
+    ap (λ (w : ℕ). bytesOf o w (number o bs)) (sym l) ∙ bytesOf-number o bs q,
+    subst (λ (w : ℕ). number o bs < 256 ^ w) l (number-below o bs q),
+  )
 
   abbrev write : Ordinates → List ℕ
   write xs = flatMap (bytesOf o 8) xs
@@ -29,9 +30,10 @@ module _ (o : Endianness) where
 
     -- a coordinate in its bytes
     coordinate : (bs : List ℕ) → length bs ≡ 8 * s → Bytes bs → (write (read bs) ≡ bs) × Sized (read bs)
-    coordinate bs l q =
-        (written-pieces (bytesOf o 8) (number o) 8 (λ x. x < 2 ^ 64) ordinate s bs l q
-        , (length-pieces (bytesOf o 8) (number o) 8 s bs, each-piece (bytesOf o 8) (number o) 8 (λ x. x < 2 ^ 64) ordinate s bs l q))
+    coordinate bs l q = (
+      written-pieces (bytesOf o 8) (number o) 8 (λ x. x < 2 ^ 64) ordinate s bs l q,
+      (length-pieces (bytesOf o 8) (number o) 8 s bs, each-piece (bytesOf o 8) (number o) 8 (λ x. x < 2 ^ 64) ordinate s bs l q),
+    )
 
     length-write : (xs : Ordinates) → Sized xs → length (write xs) ≡ 8 * s
     length-write xs h =

@@ -57,14 +57,15 @@ module _ (b : List ℕ) where
       let e₄ = behind b a₃ (ordinateBytes (h .order) cs) s₄ e₃ in
       let a₅ = a₄ + length (bytes kids) in
       let e₅ = behind b a₄ (bytes kids) s₅ e₄ in
-      rw
-      (header-there b p l h at s₂ (g .0) e₁
-      , count-there b h w a₂ s₃ (wire-below h cs kids (g .1)) (wire-point h cs kids (g .1)) e₂
-      , body-there h cs kids (g .1) .0
-      , body-there h cs kids (g .1) .1
-      , run-there b h cs a₃ s₄ (g .1 .ordinates) e₃
-      , forest-there kids d (inside h) (suc l) a₄ s₅ (g .2) (omega arith) e₄
-      , forest-there rest (suc d) p l a₅ s (g .3) (omega arith) e₅)
+      rw (
+        header-there b p l h at s₂ (g .0) e₁,
+        count-there b h w a₂ s₃ (wire-below h cs kids (g .1)) (wire-point h cs kids (g .1)) e₂,
+        body-there h cs kids (g .1) .0,
+        body-there h cs kids (g .1) .1,
+        run-there b h cs a₃ s₄ (g .1 .ordinates) e₃,
+        forest-there kids d (inside h) (suc l) a₄ s₅ (g .2) (omega arith) e₄,
+        forest-there rest (suc d) p l a₅ s (g .3) (omega arith) e₅,
+      )
       (ap (λ (n : ℕ). answered (first h cs kids rest, n)) (length-first h cs kids rest at))
 
   joined : (h : Header) (cs : List Ordinates) (kids rest : Forest) (n at a₂ a₃ a₄ a₅ e : ℕ) → wire h cs kids ≡ n → From b at (headed h) a₂ → From b a₂ (countBytes h n) a₃
@@ -99,7 +100,8 @@ module _ (b : List ℕ) where
         let (rest₂, rest₃, f₅) = forest-from (suc d) n p l (kids .1) rest rest₁ in
         let (w, body) = body-from (h .0) (cs .0) (kids .0) (c .0) cs₂ kids₃ lt one cs₃ in
         let i : (first (h .0) (cs .0) (kids .0) (rest .0), rest .1) ≡ y = cc in
-        subst (λ (z : Forest × ℕ). WellFormed p l (z .0) × (siblings (z .0) ≡ suc n) × From b at (bytes (z .0)) (z .1)) i
-        ((h₂, body, kids₂, rest₂)
-        , ap suc rest₃
-        , joined (h .0) (cs .0) (kids .0) (rest .0) (c .0) at (h .1) (c .1) (cs .1) (kids .1) (rest .1) w f₁ f₂ f₃ f₄ f₅))))))
+        subst (λ (z : Forest × ℕ). WellFormed p l (z .0) × (siblings (z .0) ≡ suc n) × From b at (bytes (z .0)) (z .1)) i (
+          (h₂, body, kids₂, rest₂),
+          ap suc rest₃,
+          joined (h .0) (cs .0) (kids .0) (rest .0) (c .0) at (h .1) (c .1) (cs .1) (kids .1) (rest .1) w f₁ f₂ f₃ f₄ f₅,
+        ))))))

@@ -39,9 +39,10 @@ module _ (b : List ℕ) where
   From at bs e = (e ≡ at + length bs) × (drop at b ≡ bs ++ drop e b)
 
   pub from-append : (at m e : ℕ) (xs ys : List ℕ) → From at xs m → From m ys e → From at (xs ++ ys) e
-  from-append at m e xs ys p q =
-      (let l = length-append xs ys in omega (arith, p .0, q .0)
-      , p .1 ∙ ap (λ (zs : List ℕ). xs ++ zs) (q .1) ∙ sym (append-assoc xs ys (drop e b)))
+  from-append at m e xs ys p q = (
+    let l = length-append xs ys in omega (arith, p .0, q .0),
+    p .1 ∙ ap (λ (zs : List ℕ). xs ++ zs) (q .1) ∙ sym (append-assoc xs ys (drop e b)),
+  )
 
   -- what stands behind them
   pub behind : (at : ℕ) (bs s : List ℕ) → drop at b ≡ bs ++ s → drop (at + length bs) b ≡ s
@@ -65,11 +66,14 @@ module _ (b : List ℕ) where
       let en : at + w ≡ y .1 = cc in
       let k = length-drop at b in
       let le = leb-true w (length b - at) c in
-      let l : length (y .0) ≡ w = ap length (sym bs) ∙ length-take-le w (drop at b) (omega arith) in
-      (((sym en ∙ ap (λ (n : ℕ). at + n) (sym l))
-      , (sym (take-append-drop w (drop at b)) ∙ ap₂ {C = List ℕ} (λ xs ys. xs ++ ys) bs (drop-drop w at b ∙ ap (λ (n : ℕ). drop n b) en)))
-      , l
-      , sym bs)
+      let l : length (y .0) ≡ w = ap length (sym bs) ∙ length-take-le w (drop at b) (omega arith) in (
+        (
+          (sym en ∙ ap (λ (n : ℕ). at + n) (sym l)),
+          (sym (take-append-drop w (drop at b)) ∙ ap₂ {C = List ℕ} (λ xs ys. xs ++ ys) bs (drop-drop w at b ∙ ap (λ (n : ℕ). drop n b) en)),
+        ),
+        l,
+        sym bs,
+      )
   span-cases false w at y c e =
       let f : refused 2 at ≡ answered y = rw c at e in
       let z : _≡_ {A = ℕ} 0 1 = cc in
@@ -105,9 +109,10 @@ module _ (b : List ℕ) where
         let x : number o (z .0) ≡ y .0 = cc in
         let m : z .1 ≡ y .1 = cc in
         let q : Bytes (z .0) = subst Bytes (sym t) (span-bytes w at) in
-        let n : bytesOf o w (y .0) ≡ z .0 = ap₂ (bytesOf o) (sym l) (sym x) ∙ bytesOf-number o (z .0) q in
-        (subst (λ (bs : List ℕ). From at bs (y .1)) (sym n) (subst (From at (z .0)) m f)
-        , subst (λ (k : ℕ). y .0 < 256 ^ k) l (subst (λ (k : ℕ). k < 256 ^ length (z .0)) x (number-below o (z .0) q))))
+        let n : bytesOf o w (y .0) ≡ z .0 = ap₂ (bytesOf o) (sym l) (sym x) ∙ bytesOf-number o (z .0) q in (
+          subst (λ (bs : List ℕ). From at bs (y .1)) (sym n) (subst (From at (z .0)) m f),
+          subst (λ (k : ℕ). y .0 < 256 ^ k) l (subst (λ (k : ℕ). k < 256 ^ length (z .0)) x (number-below o (z .0) q)),
+        ))
 
     orderOf-back : (x : ℕ) → leb x 1 ≡ true → bytesOf LittleEndian 1 x ≡ orderByte (orderOf x) ∷ []
     unfolding digits

@@ -38,14 +38,15 @@ module _ (b : List ℕ) where
       let s₁ = sridBytes (h .order) (h .srid) ++ s in
       let e₁ : drop (at + 1) b ≡ bytesOf (h .order) 4 (h .code) ++ s₁ = behind b at (orderByte (h .order) ∷ []) (bytesOf (h .order) 4 (h .code) ++ s₁) e in
       let e₂ : drop (at + 1 + 4) b ≡ s₁ = ap (λ (n : ℕ). drop (at + 1 + n) b) (sym (length-bytesOf (h .order) 4 (h .code))) ∙ behind b (at + 1) (bytesOf (h .order) 4 (h .code)) s₁ e₁ in
-      rw
-      (order-there b (h .order) at (bytesOf (h .order) 4 (h .code) ++ s₁) e
-      , num-there b (h .order) 4 (h .code) (at + 1) s₁ (g .four) e₁
-      , g .says
-      , g .fitting
-      , g .plain
-      , g .shallow
-      , srid-there b (h .order) (h .srid) (at + 1 + 4) s (g .srid) e₂)
+      rw (
+        order-there b (h .order) at (bytesOf (h .order) 4 (h .code) ++ s₁) e,
+        num-there b (h .order) 4 (h .code) (at + 1) s₁ (g .four) e₁,
+        g .says,
+        g .fitting,
+        g .plain,
+        g .shallow,
+        srid-there b (h .order) (h .srid) (at + 1 + 4) s (g .srid) e₂,
+      )
 
   pub header-there : (p : Place) (l : ℕ) (h : Header) (at : ℕ) (s : List ℕ) → HeaderAt p l h → drop at b ≡ headed h ++ s → header b p l at ≡ answered (h, at + length (headed h))
   unfolding header
@@ -101,9 +102,10 @@ module _ (b : List ℕ) where
         let (f₂, x₂, x₃) = srid-from b bytes (t .0 .srid) (o .0) (w .1) x x₁ in
         let i : (made (t .0) (o .0) (c .0) (x .0), x .1) ≡ y = cc in
         let j : c .1 ≡ w .1 = k₁ ∙ k₂ ∙ k₃ ∙ k₄ in
-        subst (λ (z : Header × ℕ). GeometryHeader a l (z .0) × From b at (headed (z .0)) (z .1)) i
-        (geometry a l at (o .1) (w .1) (x .1) (t .0) (o .0) (c .0) (x .0) x₂ c₂ k g₅ g₆ (not-true (tooDeep l (t .0)) g₇) x₃
-        , bytes-of a l at (o .1) (w .1) (x .1) (t .0) (o .0) (c .0) (x .0) x₂ k (order-from b bytes at o o₁) (subst (From b (o .1) (bytesOf (o .0) 4 (c .0))) j f₁) f₂))))))))
+        subst (λ (z : Header × ℕ). GeometryHeader a l (z .0) × From b at (headed (z .0)) (z .1)) i (
+          geometry a l at (o .1) (w .1) (x .1) (t .0) (o .0) (c .0) (x .0) x₂ c₂ k g₅ g₆ (not-true (tooDeep l (t .0)) g₇) x₃,
+          bytes-of a l at (o .1) (w .1) (x .1) (t .0) (o .0) (c .0) (x .0) x₂ k (order-from b bytes at o o₁) (subst (From b (o .1) (bytesOf (o .0) 4 (c .0))) j f₁) f₂,
+        ))))))))
 
     pub header-from : (p : Place) (l at : ℕ) (y : Header × ℕ) → header b p l at ≡ answered y → HeaderAt p l (y .0) × From b at (headed (y .0)) (y .1)
     unfolding header

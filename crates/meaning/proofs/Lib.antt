@@ -6,4 +6,6 @@ pub mod Fields
 pub mod Headers
 pub mod Bodies
 pub mod Exact
+pub mod Levels
+pub mod Accepted
 pub mod Samples

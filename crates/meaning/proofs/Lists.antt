@@ -92,6 +92,7 @@ module _ {A : Type 0} (write : A → List ℕ) (read : List ℕ → A) (w : ℕ)
     pub each-piece : (n : ℕ) (bs : List ℕ) → length bs ≡ w * n → Bytes bs → Each P (map read (pieces w n bs))
     unfolding pieces
     each-piece zero bs e q = tt
-    each-piece (suc n) bs e q =
-        (good (take w bs) (piece n bs e) (each-take (λ b. b < 256) w bs q) .1
-        , each-piece n (drop w bs) (left n bs e) (each-drop (λ b. b < 256) w bs q))
+    each-piece (suc n) bs e q = (
+      good (take w bs) (piece n bs e) (each-take (λ b. b < 256) w bs q) .1,
+      each-piece n (drop w bs) (left n bs e) (each-drop (λ b. b < 256) w bs q),
+    )
