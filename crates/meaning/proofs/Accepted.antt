@@ -26,7 +26,7 @@ pub record Begins (b : List ℕ) (t : Forest) (n : ℕ) : Type 0 where
 begins-split : (b : List ℕ) (t : Forest) (n : ℕ) → Begins b t n → b ≡ bytes t ++ drop n b
 begins-split b t n h = sym (take-append-drop n b) ∙ ap (λ (bs : List ℕ). bs ++ drop n b) (sym (h .same))
 
-begins-length : (b : List ℕ) (t : Forest) (n : ℕ) → Begins b t n → length (bytes t) ≡ n
+pub begins-length : (b : List ℕ) (t : Forest) (n : ℕ) → Begins b t n → length (bytes t) ≡ n
 begins-length b t n h = ap length (h .same) ∙ length-take-le n b (h .within)
 
 -- a well-formed geometry at the buffer's beginning is read, whatever the buffer's length

@@ -83,7 +83,7 @@ module _ (h : Header) (cs : List Ordinates) (kids : Forest) where
   count-least′ false true = omega arith
   count-least′ false false = omega arith
 
-  count-least : count h cs kids ≤ wire h cs kids
+  pub count-least : count h cs kids ≤ wire h cs kids
   count-least = count-least′ (eqb (h .kind) 1 && every (every isNaN) cs) (leb (h .kind) 2)
 
   -- A body by its count: n coordinates and no children for kinds 0 to 2, n children and no coordinates for the others.

@@ -8,4 +8,8 @@ pub mod Bodies
 pub mod Exact
 pub mod Levels
 pub mod Accepted
+pub mod Words
+pub mod Sizes
+pub mod Spans
+pub mod Fits
 pub mod Samples

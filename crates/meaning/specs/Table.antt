@@ -1,14 +1,14 @@
 -- The table: rows of a geometry, their two words, and what the reader leaves in a table.
-use Prim.Native.Nat.{ℕ, zero, suc, _+_, _*_, _/_, _%_, _^_}
+use Prim.Native.Nat.{ℕ, zero, suc, _+_, _*_, _/_, _%_, _^_, _<_}
 use mathlib.Core.List.{List, [], _∷_, _++_, map}
 use mathlib.Core.Bool.{Bool, true, false, cond}
 use lib.ListN.{length, drop, getD}
 use lib.Dec.{leb, eqb}
 use Rattle.meaning.specs.declared.RowFields.{RowFields}
 use Rattle.meaning.specs.declared.Offset.{Offset}
-use Rattle.meaning.specs.Number.{orderByte}
-use Rattle.meaning.specs.Code.{dimensionNumber, dimensionOf}
-use Rattle.meaning.specs.Grammar.{Header, Ordinates, Forest, empty, first, front, bytes, ordinateBytes, count, isSome}
+use Rattle.meaning.specs.Number.{Each, orderByte}
+use Rattle.meaning.specs.Code.{size, dimensionNumber, dimensionOf}
+use Rattle.meaning.specs.Grammar.{Header, Ordinates, Forest, empty, first, front, bytes, ordinateBytes, holdsCoordinates, count, isSome}
 use Rattle.meaning.specs.Answer.{Answer, refused, answered}
 use Rattle.meaning.specs.Reading.{orderOf, reading}
 
@@ -45,6 +45,22 @@ rows at l (first h cs kids rest) =
     rowOf at l h cs kids
     ∷ (rows (rowOf at l h cs kids .body .0) (suc l) kids ++ rows (rowOf at l h cs kids .end .0) l rest)
 
+-- ---- "Header, SRID, count and ordinate bytes of all rows"
+
+-- where it begins, and how many bytes it has
+abbrev pub Span : Type 0
+Span = ℕ × ℕ
+
+-- A Point's ordinates stand there also if it is empty, though its count is then 0.
+abbrev pub ordinateSize : RowFields → ℕ
+ordinateSize r = 8 * size (r .dimension) * cond (holdsCoordinates (r .kind)) (cond (eqb (r .kind) 1) 1 (r .count)) 0
+
+abbrev pub spans : RowFields → List Span
+spans r =
+    let header : ℕ = cond (eqb (r .kind) 0) 0 5 in
+    let srid : ℕ = cond (r .srid) 4 0 in
+    (r .start .0, header) ∷ (r .start .0 + header, srid) ∷ (r .start .0 + header + srid, cond (eqb (r .kind) 1) 0 4) ∷ (r .body .0, ordinateSize r) ∷ []
+
 -- ---- "A row is two 64-bit words, most significant field first."
 
 -- a field: its width in bits, and its value
@@ -64,6 +80,10 @@ values fs = map (λ (f : Field). f .1) fs
 unfoldable pub pack : List Field → ℕ
 pack [] = 0
 pack (f ∷ fs) = f .1 * 2 ^ sum (widths fs) + pack fs
+
+-- each value is below 2 to its width
+abbrev pub Fit : List Field → Type 0
+Fit fs = Each (λ (f : Field). f .1 < 2 ^ f .0) fs
 
 unfoldable pub unpack : List ℕ → ℕ → List ℕ
 unpack [] x = []
@@ -88,6 +108,9 @@ wordA r = pack (fieldsA r)
 
 abbrev pub wordB : RowFields → ℕ
 wordB r = pack (fieldsB r)
+
+abbrev pub RowFits : RowFields → Type 0
+RowFits r = Fit (fieldsA r) × Fit (fieldsB r)
 
 -- the fields that two words hold; the zero fields are not looked at
 abbrev pub fieldsOf : ℕ → ℕ → RowFields
