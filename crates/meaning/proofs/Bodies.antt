@@ -9,7 +9,7 @@ use lib.Dec.{leb, eqb}
 use borrow.Author.Tests.{eqb-true, eqb-false, eq-eqb, ne-eqb, leb-true, leb-false, le-leb, lt-leb}
 use Rattle.meaning.specs.Number.{Each, Bytes, bytesOf}
 use Rattle.meaning.specs.Code.{size}
-use Rattle.meaning.specs.Grammar.{Header, Ordinates, Forest, siblings, every, isNaN, shown, count, countBytes, ordinateBytes, OrdinatesOf, Body}
+use Rattle.meaning.specs.Grammar.{Header, Ordinates, Forest, siblings, emptyPoint, shown, count, countBytes, ordinateBytes, OrdinatesOf, Body}
 use Rattle.meaning.specs.Answer.{Answer, refused, answered}
 use Rattle.meaning.specs.Reading.{give, num, span, countOf, run, coordinatesIn}
 use Rattle.meaning.proofs.Lists.{each-take, each-drop}
@@ -84,7 +84,7 @@ module _ (h : Header) (cs : List Ordinates) (kids : Forest) where
   count-least′ false false = omega arith
 
   pub count-least : count h cs kids ≤ wire h cs kids
-  count-least = count-least′ (eqb (h .kind) 1 && every (every isNaN) cs) (leb (h .kind) 2)
+  count-least = count-least′ (emptyPoint h cs) (leb (h .kind) 2)
 
   -- A body by its count: n coordinates and no children for kinds 0 to 2, n children and no coordinates for the others.
   body-from′ : (t : Bool) (n : ℕ) → leb (h .kind) 2 ≡ t → length cs ≡ cond t n 0 → siblings kids ≡ cond t 0 n → n < 2 ^ 32 → (h .kind ≡ 1 → n ≡ 1) → Each (OrdinatesOf (h .dimension)) cs

@@ -12,4 +12,5 @@ pub mod Words
 pub mod Sizes
 pub mod Spans
 pub mod Fits
+pub mod EmptyPoint
 pub mod Samples
