@@ -83,11 +83,12 @@ rows-fit (first h cs kids rest) p l at g lv le =
     let r = rowOf at l h cs kids in
     let e₁ = length-append (front h (count h cs kids)) (ordinateBytes (h .order) cs ++ (bytes kids ++ bytes rest)) in
     let e₂ = length-append (ordinateBytes (h .order) cs) (bytes kids ++ bytes rest) in
-    let e₃ = length-append (bytes kids) (bytes rest) in
-    (row-fits h cs kids p l at (g .0) (g .1) (omega arith) (omega arith)
-    , each-append RowFits (rows (r .body .0) (suc l) kids) (rows (r .end .0) l rest)
-      (rows-fit kids (inside h) (suc l) (r .body .0) (g .2) (omega arith) (omega arith))
-      (rows-fit rest p l (r .end .0) (g .3) (omega arith) (omega arith)))
+    let e₃ = length-append (bytes kids) (bytes rest) in (
+      row-fits h cs kids p l at (g .0) (g .1) (omega arith) (omega arith),
+      each-append RowFits (rows (r .body .0) (suc l) kids) (rows (r .end .0) l rest)
+          (rows-fit kids (inside h) (suc l) (r .body .0) (g .2) (omega arith) (omega arith))
+          (rows-fit rest p l (r .end .0) (g .3) (omega arith) (omega arith)),
+    )
 
 pub fits-the-words : (b : List ℕ) → Bytes b → (t : Forest) (n : ℕ) → reading b ≡ answered (t, n) → Each RowFits (rows 0 0 t)
 fits-the-words b all t n e =

@@ -151,6 +151,7 @@ every-byte-once b all t n e =
     let (g, p) = accepted-exactly b all (accepted-short b (t, n) e) t n .0 e in
     let l : length (bytes t) ≡ n = begins-length b t n p in
     let z = zero-add (length (bytes t)) in
-    let tiles : Tiles 0 (flatMap spans (rows 0 0 t)) n = subst (Tiles 0 (flatMap spans (rows 0 0 t))) (z ∙ l) (tiles-rows t outermost 0 0 (g .wellFormed)) in
-    (λ k lt. once k 0 (flatMap spans (rows 0 0 t)) n tiles (omega arith) lt
-    , sym (zero-add (total (flatMap spans (rows 0 0 t)))) ∙ tiles-total 0 (flatMap spans (rows 0 0 t)) n tiles)
+    let tiles : Tiles 0 (flatMap spans (rows 0 0 t)) n = subst (Tiles 0 (flatMap spans (rows 0 0 t))) (z ∙ l) (tiles-rows t outermost 0 0 (g .wellFormed)) in (
+      λ k lt. once k 0 (flatMap spans (rows 0 0 t)) n tiles (omega arith) lt,
+      sym (zero-add (total (flatMap spans (rows 0 0 t)))) ∙ tiles-total 0 (flatMap spans (rows 0 0 t)) n tiles,
+    )
