@@ -1,4 +1,4 @@
-// The types that callers see. What each answer means in the paper's numbers is given in specs/Answers.antt.
+// The types that callers see. What each answer means in the paper's numbers is given in specs/Answer.antt.
 
 // The byte that opens a geometry: 0 big, 1 little.
 pub enum Endianness {

@@ -1,0 +1,15 @@
+-- The last arm is left with the numbers above 2. Assumes nothing.
+use borrow.Author.Needs.{needs}
+use native.Mathlib.Omega.{arith}
+use Rattle.fields.proofs.Codes.{above-two}
+use Rattle.fields.proofs.code.dimension_of.Statement.{statement}
+use Rattle.fields.proofs.code.dimension_of.Tie as tie
+
+pub dimension-of-spec : {M : Type 1} → statement M
+dimension-of-spec =
+    tie.close
+    (tie.spec
+    (λ c. search needs)
+    (λ c. search needs)
+    (λ c. search needs)
+    (λ c. above-two (c .before .args .k) (omega arith)))
