@@ -16,19 +16,27 @@ use Rattle.meaning.proofs.Headers.{header-from}
 use Rattle.meaning.proofs.Exact.{depth}
 
 -- n levels are enough for siblings of the kind asked for, at level l
-abbrev EnoughFor : Option ℕ → ℕ → ℕ → Type 0
+abbrev pub EnoughFor : Option ℕ → ℕ → ℕ → Type 0
 EnoughFor none l n = (l ≤ 16) × (19 ≤ l + n)
 EnoughFor (some k) l n = (k ≤ 3) × (1 ≤ n) × (k ≤ n + 1)
 
-abbrev Enough : Place → ℕ → ℕ → Type 0
+abbrev pub Enough : Place → ℕ → ℕ → Type 0
 Enough (rings o d) l n = 1 ≤ n
 Enough (geometries a) l n = EnoughFor (a .kind) l n
 
-some-levels : (p : Place) (l n : ℕ) → Enough p l n → 1 ≤ n
+pub some-levels : (p : Place) (l n : ℕ) → Enough p l n → 1 ≤ n
 some-levels (rings o d) l n h = h
 some-levels (geometries a) l n h = go (a .kind) h
   where
     go : (k : Option ℕ) → EnoughFor k l n → 1 ≤ n
+    go none h = omega arith
+    go (some k) h = omega arith
+
+pub enough-more : (p : Place) (l n : ℕ) → Enough p l n → Enough p l (suc n)
+enough-more (rings o d) l n h = omega arith
+enough-more (geometries a) l n h = go (a .kind) h
+  where
+    go : (k : Option ℕ) → EnoughFor k l n → EnoughFor k l (suc n)
     go none h = omega arith
     go (some k) h = omega arith
 
@@ -50,10 +58,10 @@ inside-kind h l n false false e f a b c d g =
     rw (e, f) (g (omega arith))
 
 -- a collection that is not too deep stands below level 16
-not-deep : (l : ℕ) (h : Header) → tooDeep l (said h) ≡ false → h .kind ≡ 7 → l < 16
+pub not-deep : (l : ℕ) (h : Header) → tooDeep l (said h) ≡ false → h .kind ≡ 7 → l < 16
 not-deep l h e k = leb-false 16 l (rw (eq-eqb (h .kind) 7 k) at e)
 
-enough-inside : (p : Place) (l n : ℕ) (h : Header) → Enough p l (suc n) → HeaderAt p l h → 3 ≤ h .kind → Enough (inside h) (suc l) n
+pub enough-inside : (p : Place) (l n : ℕ) (h : Header) → Enough p l (suc n) → HeaderAt p l h → 3 ≤ h .kind → Enough (inside h) (suc l) n
 enough-inside (rings o d) l n h enough at k = let z : h .kind ≡ 0 = ap (λ (x : Header). x .kind) at in absurd (omega arith)
 enough-inside (geometries a) l n h enough at k =
     go (a .kind) enough (both (asked (a .kind) (h .kind)) (askedDimension (a .dimension) (h .dimension)) (at .fitting) .0)
@@ -95,11 +103,11 @@ nineteen-levels t g = depth-enough t outermost 0 19 (g .wellFormed) (omega arith
 
 -- ---- The bound is never what refuses.
 
-after-same : {A B : Type 0} (x : Answer (A × ℕ)) (f g : A → Reader B) → ((z : A × ℕ) → x ≡ answered z → f (z .0) (z .1) ≡ g (z .0) (z .1)) → after x f ≡ after x g
+pub after-same : {A B : Type 0} (x : Answer (A × ℕ)) (f g : A → Reader B) → ((z : A × ℕ) → x ≡ answered z → f (z .0) (z .1) ≡ g (z .0) (z .1)) → after x f ≡ after x g
 after-same (refused n p) f g h = refl
 after-same (answered z) f g h = h z refl
 
-after-both : {A B : Type 0} (x y : Answer (A × ℕ)) (f g : A → Reader B) → x ≡ y → ((z : A × ℕ) → f (z .0) (z .1) ≡ g (z .0) (z .1)) → after x f ≡ after y g
+pub after-both : {A B : Type 0} (x y : Answer (A × ℕ)) (f g : A → Reader B) → x ≡ y → ((z : A × ℕ) → f (z .0) (z .1) ≡ g (z .0) (z .1)) → after x f ≡ after y g
 after-both x y f g e h = ap (λ w. after w f) e ∙ after-same y f g (λ z _. h z)
 
 module _ (b : List ℕ) (all : Bytes b) where
@@ -110,7 +118,7 @@ module _ (b : List ℕ) (all : Bytes b) where
   none-to-read (suc d) zero p l at = refl
   none-to-read (suc d) (suc e) p l at = refl
 
-  forest-same : (d e n : ℕ) (p : Place) (l at : ℕ) → Enough p l d → Enough p l e → forest b d n p l at ≡ forest b e n p l at
+  pub forest-same : (d e n : ℕ) (p : Place) (l at : ℕ) → Enough p l d → Enough p l e → forest b d n p l at ≡ forest b e n p l at
   unfolding forest
   forest-same zero e n p l at g k = let one = some-levels p l 0 g in absurd (omega arith)
   forest-same (suc d) zero n p l at g k = let one = some-levels p l 0 k in absurd (omega arith)

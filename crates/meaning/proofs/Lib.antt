@@ -11,6 +11,7 @@ pub mod Accepted
 pub mod Words
 pub mod Sizes
 pub mod Spans
+pub mod Siblings
 pub mod Fits
 pub mod EmptyPoint
 pub mod Samples
