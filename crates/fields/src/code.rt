@@ -1,10 +1,13 @@
 // Type codes and dimensions.
 use meaning::Dimension;
+use meaning::Endianness;
 use meaning::TypeAnswer;
 use meaning::WkbType;
 ghost use mathlib.Core.Path.{_≡_};
 ghost use Prim.Native.Nat.{_≤_};
 ghost use Rattle.meaning.specs.Answer.{typeMeant};
+ghost use Rattle.meaning.specs.Number.{orderByte};
+ghost use Rattle.meaning.specs.Reading.{orderOf};
 ghost use Rattle.meaning.specs.Code.{dimensionNumber, dimensionOf, flaggedType, isoCode, isoType, size as Code·size, typeOf};
 
 // The flags are the three highest bits of a code. So a code below the lowest has none, and the other 29 bits are what is left of a
@@ -41,7 +44,7 @@ fn iso_type(code: u32) -> TypeAnswer
     }
     TypeAnswer::Known(WkbType {
         kind: kind as usize,
-        dimension: dimension_of(thousands),
+        dimension: dimension_of(thousands as usize),
         srid: false,
     })
 }
@@ -60,7 +63,7 @@ fn flagged_type(code: u32) -> TypeAnswer
     let m = code / EWKB_FLAG_M % 2;
     TypeAnswer::Known(WkbType {
         kind: kind as usize,
-        dimension: dimension_of(z + 2 * m),
+        dimension: dimension_of((z + 2 * m) as usize),
         srid: code / EWKB_FLAG_SRID % 2 == 1,
     })
 }
@@ -82,11 +85,11 @@ pub fn iso_code(kind: usize, d: Dimension) -> u32
     requires { ⌜ kind ≤ 7 ⌝ }
     ensures { λ r. ⌜ r ≡ isoCode kind d ⌝ }
 {
-    1000 * dimension_number(d) + kind as u32
+    (1000 * dimension_number(d) + kind) as u32
 }
 
 // 0 to 3. The bound is there for callers that compute with it.
-pub fn dimension_number(d: Dimension) -> u32
+pub fn dimension_number(d: Dimension) -> usize
     ensures { λ r. ⌜ (r ≡ dimensionNumber d) × (r ≤ 3) ⌝ }
 {
     match d {
@@ -97,7 +100,7 @@ pub fn dimension_number(d: Dimension) -> u32
     }
 }
 
-pub fn dimension_of(k: u32) -> Dimension
+pub fn dimension_of(k: usize) -> Dimension
     ensures { λ r. ⌜ r ≡ dimensionOf k ⌝ }
 {
     match k {
@@ -105,5 +108,24 @@ pub fn dimension_of(k: u32) -> Dimension
         1 => Dimension::Xyz,
         2 => Dimension::Xym,
         _ => Dimension::Xyzm,
+    }
+}
+
+// 0 big, 1 little.
+pub fn order_byte(order: Endianness) -> usize
+    ensures { λ r. ⌜ (r ≡ orderByte order) × (r ≤ 1) ⌝ }
+{
+    match order {
+        Endianness::BigEndian => 0,
+        Endianness::LittleEndian => 1,
+    }
+}
+
+pub fn order_of(x: usize) -> Endianness
+    ensures { λ r. ⌜ r ≡ orderOf x ⌝ }
+{
+    match x {
+        0 => Endianness::BigEndian,
+        _ => Endianness::LittleEndian,
     }
 }

@@ -28,17 +28,17 @@ use Rattle.meaning.proofs.Levels.{nineteen-levels}
 use Rattle.meaning.proofs.Accepted.{accepted-exactly, accepted-short, begins-length}
 use Rattle.meaning.proofs.Sizes.{rows-bytes, siblings-rows, front-some}
 
-dimension-below : (d : Dimension) → dimensionNumber d < 4
+pub dimension-below : (d : Dimension) → dimensionNumber d < 4
 dimension-below Xy = omega arith
 dimension-below Xyz = omega arith
 dimension-below Xym = omega arith
 dimension-below Xyzm = omega arith
 
-order-below : (o : Endianness) → orderByte o < 2
+pub order-below : (o : Endianness) → orderByte o < 2
 order-below BigEndian = omega arith
 order-below LittleEndian = omega arith
 
-bit-below : (s : Bool) → bit s < 2
+pub bit-below : (s : Bool) → bit s < 2
 bit-below true = omega arith
 bit-below false = omega arith
 

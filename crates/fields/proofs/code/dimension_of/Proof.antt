@@ -1,7 +1,6 @@
--- The last arm is left with the numbers above 2. Assumes nothing.
 use borrow.Author.Needs.{needs}
 use native.Mathlib.Omega.{arith}
-use Rattle.fields.proofs.Codes.{above-two}
+use Rattle.fields.proofs.Codes.{other-dimension}
 use Rattle.fields.proofs.code.dimension_of.Statement.{statement}
 use Rattle.fields.proofs.code.dimension_of.Tie as tie
 
@@ -12,4 +11,4 @@ dimension-of-spec =
     (λ c. search needs)
     (λ c. search needs)
     (λ c. search needs)
-    (λ c. above-two (c .before .args .k) (omega arith)))
+    (λ c. other-dimension (c .before .args .k) (omega arith)))

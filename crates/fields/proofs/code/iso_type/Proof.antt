@@ -15,6 +15,7 @@ iso-type-spec =
     (λ c. simp (lt-leb _ _ (c .if2 .taken), and-false))
     (λ c. simp (lt-leb _ _ (c .if3 .taken), and-false))
     (λ c. search needs)
+    (λ c. search needs)
     (λ c κs. search needs)
     (λ c.
     simp (

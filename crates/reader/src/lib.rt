@@ -1,0 +1,4 @@
+// Bytes to table.
+pub mod geometry;
+pub mod util;
+pub mod walk;
