@@ -12,6 +12,8 @@ pub mod Words
 pub mod Sizes
 pub mod Spans
 pub mod Siblings
+pub mod Steps
 pub mod Fits
 pub mod EmptyPoint
+pub mod OneAnswer
 pub mod Samples

@@ -20,19 +20,22 @@ pub data Answer (A : Type 0) : Type 0 where
   refused : ℕ → ℕ → Answer A
   answered : A → Answer A
 
--- the table of refusal numbers
+-- the table of refusal numbers: number and place
+abbrev pub numbered : Refusal → ℕ × ℕ
+numbered TooLong = (1, 0)
+numbered (PastEnd p) = (2, p .0)
+numbered (ByteOrder p) = (3, p .0)
+numbered (TypeCode p) = (4, p .0)
+numbered (WrongChild p) = (5, p .0)
+numbered (ChildSrid p) = (6, p .0)
+numbered (TooDeep p) = (7, p .0)
+numbered (TooFewRows n) = (8, n)
+numbered (Unsound r) = (9, r .0)
+numbered (NotThere n) = (10, n)
+numbered (OutputTooShort n) = (11, n)
+
 abbrev pub refusal : {A : Type 0} → Refusal → Answer A
-refusal TooLong = refused 1 0
-refusal (PastEnd p) = refused 2 (p .0)
-refusal (ByteOrder p) = refused 3 (p .0)
-refusal (TypeCode p) = refused 4 (p .0)
-refusal (WrongChild p) = refused 5 (p .0)
-refusal (ChildSrid p) = refused 6 (p .0)
-refusal (TooDeep p) = refused 7 (p .0)
-refusal (TooFewRows n) = refused 8 n
-refusal (Unsound r) = refused 9 (r .0)
-refusal (NotThere n) = refused 10 n
-refusal (OutputTooShort n) = refused 11 n
+refusal x = refused (numbered x .0) (numbered x .1)
 
 -- what a type code says, if it is allowed
 abbrev pub typeMeant : TypeAnswer → Option WkbType

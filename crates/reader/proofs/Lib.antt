@@ -1,0 +1,8 @@
+mod Known
+mod Children
+mod Headers
+mod Rows
+mod Walks
+mod Nans
+mod Leaves
+mod Closings
