@@ -42,7 +42,7 @@ pub bit-below : (s : Bool) → bit s < 2
 bit-below true = omega arith
 bit-below false = omega arith
 
-kind-below : (p : Place) (l : ℕ) (h : Header) → HeaderAt p l h → h .kind < 8
+pub kind-below : (p : Place) (l : ℕ) (h : Header) → HeaderAt p l h → h .kind < 8
 kind-below (rings o d) l h g = let e = ap (λ (x : Header). x .kind) g in omega arith
 kind-below (geometries a) l h g = let k = kind-range (h .code) (said h) (g .says) .1 in omega arith
 

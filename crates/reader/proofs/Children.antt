@@ -6,10 +6,11 @@ use mathlib.Core.Bool.{Bool, true, false, _&&_, not}
 use mathlib.Core.Option.{none, some}
 use lib.Dec.{eqb, leb}
 use borrow.Author.Tests.{eq-eqb, ne-eqb, le-leb, lt-leb}
+use Rattle.meaning.specs.declared.Endianness.{Endianness}
 use Rattle.meaning.specs.declared.Dimension.{Dimension}
 use Rattle.meaning.specs.declared.WkbType.{WkbType}
 use Rattle.meaning.specs.Code.{dimensionNumber}
-use Rattle.meaning.specs.Grammar.{Header, inside, geometries, fits, sridFits, tooDeep}
+use Rattle.meaning.specs.Grammar.{Header, inside, rings, geometries, fits, sridFits, tooDeep}
 use Rattle.reader.specs.declared.util.Parent.{Parent}
 use Rattle.reader.specs.declared.util.Parent.the-variants.{NoParent, Multi, Collection}
 use Rattle.reader.specs.Asks.{asksOf}
@@ -35,3 +36,8 @@ deep-seven l t e = rw (eq-eqb (t .kind) 7 e)
 
 pub deep-other : (l : ℕ) (t : WkbType) → (t .kind ≡ 7 → ⊥) → false ≡ tooDeep l t
 deep-other l t e = rw (ne-eqb (t .kind) 7 e)
+
+-- a polygon's children are rings of its order and dimension
+pub inside-rings : (h : Header) (o : Endianness) (d : Dimension) → h .kind ≡ 3 → h .order ≡ o → h .dimension ≡ d → inside h ≡ rings o d
+unfolding inside
+inside-rings h o d k e f = rw (eq-eqb (h .kind) 3 k, e, f)

@@ -56,13 +56,13 @@ count-bound Xyz n m h = omega arith
 count-bound Xym n m h = omega arith
 count-bound Xyzm n m h = omega arith
 
-front-headed : (h : Header) (n : ℕ) → length (front h n) ≡ length (headed h) + cond (eqb (h .kind) 1) 0 4
+pub front-headed : (h : Header) (n : ℕ) → length (front h n) ≡ length (headed h) + cond (eqb (h .kind) 1) 0 4
 front-headed h n =
     ap length (sym (append-assoc (headerBytes h) (sridBytes (h .order) (h .srid)) (countBytes h n)))
     ∙ length-append (headed h) (countBytes h n) ∙ ap (λ (m : ℕ). length (headed h) + m) (count-size h n)
 
 -- a row by what the code has of it
-row-is : (h : Header) (cs : List Ordinates) (kids : Forest) (at l next body end n s : ℕ)
+pub row-is : (h : Header) (cs : List Ordinates) (kids : Forest) (at l next body end n s : ℕ)
     → at + length (front h (count h cs kids)) ≡ body → body + length (ordinateBytes (h .order) cs) + length (bytes kids) ≡ end → count h cs kids ≡ n → suc (rowsIn kids) ≡ s
     → rowOf at l h cs kids ≡ rowFrom (headOf h next) (offset at) l (offset body) (offset end) n s
 row-is h cs kids at l next body end n s p q r t = λ i. record {

@@ -6,3 +6,4 @@ mod Walks
 mod Nans
 mod Leaves
 mod Closings
+mod Geometries

@@ -18,7 +18,7 @@ use Rattle.meaning.proofs.Siblings.{graft, rowsIn-graft, rows-graft, length-row
 use Rattle.reader.specs.Walk.{State, putRows, hasRows, whole}
 use Rattle.reader.proofs.Rows.{put-append, has-append}
 
-state : (e r : ℕ) (s : Bool) (out : List ℕ) (e′ r′ : ℕ) (s′ : Bool) (out′ : List ℕ) → e ≡ e′ → r ≡ r′ → s ≡ s′ → out ≡ out′
+pub state : (e r : ℕ) (s : Bool) (out : List ℕ) (e′ r′ : ℕ) (s′ : Bool) (out′ : List ℕ) → e ≡ e′ → r ≡ r′ → s ≡ s′ → out ≡ out′
     → _≡_ {A = Answer State} (answered (e, r, s, out)) (answered (e′, r′, s′, out′))
 state e r s out e′ r′ s′ out′ p q u v = λ i. answered (p i, q i, u i, v i)
 

@@ -1,12 +1,32 @@
-use Prim.Native.Nat.{ℕ, _<_}
+-- The dispatch over kinds and the walk over children meet their contracts. The measure is twice the bytes that are left, and one more for the
+-- children. Their loop's invariant: what is left, from here, comes to what all comes to from the start. Assumes nothing.
+use Prim.Native.Nat.{ℕ, _+_, _*_, _-_, _≤_, _<_}
+use native.Mathlib.Omega.{arith}
+use mathlib.Core.Path.{_≡_, sym, ap, subst, _∙_}
+use mathlib.Core.Bool.{Bool, true}
+use lib.ListN.{length}
+use borrow.Author.Needs.{needs}
 use borrow.Fn.Kinds.{In}
 use borrow.Fn.PlainCycle.{Measures, is, falls, and}
-use Rattle.reader.proofs.geometry.geometry.Reads as geometry·geometry
-use Rattle.reader.proofs.geometry.geometry.Kinds as geometry·geometry-kinds
-use Rattle.reader.proofs.+geometry-geometry+geometry_collection-collection.Lts-geometry-geometry as geometry·geometry-lts
-use Rattle.reader.proofs.geometry_collection.collection.Reads as geometry-collection·collection
-use Rattle.reader.proofs.geometry_collection.collection.Kinds as geometry-collection·collection-kinds
-use Rattle.reader.proofs.+geometry-geometry+geometry_collection-collection.Lts-geometry_collection-collection as geometry-collection·collection-lts
+use denote.Ref.{now}
+use Rattle.meaning.specs.Grammar.{Place, inside, rings, geometries}
+use Rattle.meaning.specs.Answer.{answered}
+use Rattle.meaning.specs.Reading.{forest}
+use Rattle.reader.specs.declared.geometry.Head.{Head}
+use Rattle.reader.specs.declared.walk.Walk.{Walk}
+use Rattle.reader.specs.Asks.{asksOf, headMeant}
+use Rattle.reader.specs.Walk.{State, Room, whole, walked}
+use Rattle.reader.proofs.Known.{bytes-known}
+use Rattle.reader.proofs.Children.{inside-rings}
+use Rattle.reader.proofs.Walks.{all-left, turn, turned-away, none-left, onward}
+use Rattle.reader.proofs.Closings.{parent-2, close-whole, closable}
+use Rattle.reader.proofs.Geometries.{opened-head, refused-head, opened-whole, room-inside}
+use Rattle.reader.proofs.geometry.geometry.Reads as geometry
+use Rattle.reader.proofs.geometry.geometry.Kinds as geometry-kinds
+use Rattle.reader.proofs.+geometry-geometry+geometry_collection-collection.Lts-geometry-geometry as geometry-lts
+use Rattle.reader.proofs.geometry_collection.collection.Reads as collection
+use Rattle.reader.proofs.geometry_collection.collection.Kinds as collection-kinds
+use Rattle.reader.proofs.+geometry-geometry+geometry_collection-collection.Lts-geometry_collection-collection as collection-lts
 use Rattle.fields.proofs.number.read_u32.Reads as read-u32-reads
 use Rattle.reader.proofs.geometry.close.Reads as close-reads
 use Rattle.reader.proofs.geometry.header.Reads as header-reads
@@ -18,809 +38,36 @@ use Rattle.reader.proofs.walk.both.Reads as both-reads
 use Rattle.reader.proofs.+geometry-geometry+geometry_collection-collection.{statement}
 use Rattle.reader.proofs.+geometry-geometry+geometry_collection-collection.Tie.{close}
 
-abbrev μ-geometry·geometry : Measures 3 geometry·geometry-kinds.ps ℕ
-μ-geometry·geometry κs a = ?
+abbrev μ-geometry : Measures 3 geometry-kinds.ps ℕ
+μ-geometry κs a = 2 * (length (a .0 .now) - a .1 .1 .1 .0 .0)
 
-abbrev μ-geometry-collection·collection : Measures 3 geometry-collection·collection-kinds.ps ℕ
-μ-geometry-collection·collection κs a = ?
+abbrev μ-collection : Measures 3 collection-kinds.ps ℕ
+μ-collection κs a = 2 * (length (a .0 .now) - a .1 .1 .1 .0 .0) + 1
 
-abbrev geometry·geometry-at : ℕ → In 3 geometry·geometry-kinds.ps
-geometry·geometry-at t =
-    and
-    3
-    geometry·geometry-kinds.ps
-    (is 3 geometry·geometry-kinds.ps μ-geometry·geometry t)
-    geometry·geometry.Pre
+abbrev geometry-at : ℕ → In 3 geometry-kinds.ps
+geometry-at t = and 3 geometry-kinds.ps (is 3 geometry-kinds.ps μ-geometry t) geometry.Pre
 
-abbrev geometry·geometry-below : ℕ → In 3 geometry·geometry-kinds.ps
-geometry·geometry-below t =
-    and
-    3
-    geometry·geometry-kinds.ps
-    (falls 3 geometry·geometry-kinds.ps _<_ μ-geometry·geometry t)
-    geometry·geometry.Pre
+abbrev geometry-below : ℕ → In 3 geometry-kinds.ps
+geometry-below t = and 3 geometry-kinds.ps (falls 3 geometry-kinds.ps _<_ μ-geometry t) geometry.Pre
 
-abbrev geometry-collection·collection-at : ℕ → In 3 geometry-collection·collection-kinds.ps
-geometry-collection·collection-at t =
-    and
-    3
-    geometry-collection·collection-kinds.ps
-    (is 3 geometry-collection·collection-kinds.ps μ-geometry-collection·collection t)
-    geometry-collection·collection.Pre
+abbrev collection-at : ℕ → In 3 collection-kinds.ps
+collection-at t = and 3 collection-kinds.ps (is 3 collection-kinds.ps μ-collection t) collection.Pre
 
-abbrev geometry-collection·collection-below : ℕ → In 3 geometry-collection·collection-kinds.ps
-geometry-collection·collection-below t =
-    and
-    3
-    geometry-collection·collection-kinds.ps
-    (falls 3 geometry-collection·collection-kinds.ps _<_ μ-geometry-collection·collection t)
-    geometry-collection·collection.Pre
+abbrev collection-below : ℕ → In 3 collection-kinds.ps
+collection-below t = and 3 collection-kinds.ps (falls 3 collection-kinds.ps _<_ μ-collection t) collection.Pre
 
--- src/geometry.rt:135:9
-geometry·geometry-header-requires : (t : ℕ) → geometry·geometry-lts.Need-header-requires (
-  header-reads.Asked,
-  header-reads.Learnt,
-  point-reads.Asked,
-  point-reads.Learnt,
-  line-string-reads.Asked,
-  line-string-reads.Learnt,
-  read-u32-reads.Asked,
-  read-u32-reads.Learnt,
-  rings-reads.Asked,
-  rings-reads.Learnt,
-  close-reads.Asked,
-  close-reads.Learnt,
-  parent-of-reads.Asked,
-  parent-of-reads.Learnt,
-  geometry-collection·collection-below t,
-  geometry-collection·collection.Post,
-) (geometry·geometry-at t) geometry·geometry.Post
-geometry·geometry-header-requires t c κs = ?
+abbrev Inv : collection-lts.InvT-loop
+Inv buf out₀ old level parent count i₀ p₀ q₀ all₀ out i p q all =
+    (i ≤ count) × (length out ≡ length out₀) × (q ≤ p) × (p₀ ≤ p)
+    × (whole old q level p all out (forest buf 19 (count - i) (geometries (asksOf parent)) level p)
+      ≡ whole old q₀ level p₀ true out₀ (forest buf 19 count (geometries (asksOf parent)) level p₀))
 
--- src/geometry.rt:137:29
-geometry·geometry-enum-known-answer : (t : ℕ) → geometry·geometry-lts.Need-enum-known-answer (
-  header-reads.Asked,
-  header-reads.Learnt,
-  point-reads.Asked,
-  point-reads.Learnt,
-  line-string-reads.Asked,
-  line-string-reads.Learnt,
-  read-u32-reads.Asked,
-  read-u32-reads.Learnt,
-  rings-reads.Asked,
-  rings-reads.Learnt,
-  close-reads.Asked,
-  close-reads.Learnt,
-  parent-of-reads.Asked,
-  parent-of-reads.Learnt,
-  geometry-collection·collection-below t,
-  geometry-collection·collection.Post,
-) (geometry·geometry-at t) geometry·geometry.Post
-geometry·geometry-enum-known-answer t c = ?
-
--- src/geometry.rt:138:27
-geometry·geometry-enum-known-answer-2 : (t : ℕ) → geometry·geometry-lts.Need-enum-known-answer-2 (
-  header-reads.Asked,
-  header-reads.Learnt,
-  point-reads.Asked,
-  point-reads.Learnt,
-  line-string-reads.Asked,
-  line-string-reads.Learnt,
-  read-u32-reads.Asked,
-  read-u32-reads.Learnt,
-  rings-reads.Asked,
-  rings-reads.Learnt,
-  close-reads.Asked,
-  close-reads.Learnt,
-  parent-of-reads.Asked,
-  parent-of-reads.Learnt,
-  geometry-collection·collection-below t,
-  geometry-collection·collection.Post,
-) (geometry·geometry-at t) geometry·geometry.Post
-geometry·geometry-enum-known-answer-2 t c = ?
-
--- src/geometry.rt:141:17
-geometry·geometry-point-requires : (t : ℕ) → geometry·geometry-lts.Need-point-requires (
-  header-reads.Asked,
-  header-reads.Learnt,
-  point-reads.Asked,
-  point-reads.Learnt,
-  line-string-reads.Asked,
-  line-string-reads.Learnt,
-  read-u32-reads.Asked,
-  read-u32-reads.Learnt,
-  rings-reads.Asked,
-  rings-reads.Learnt,
-  close-reads.Asked,
-  close-reads.Learnt,
-  parent-of-reads.Asked,
-  parent-of-reads.Learnt,
-  geometry-collection·collection-below t,
-  geometry-collection·collection.Post,
-) (geometry·geometry-at t) geometry·geometry.Post
-geometry·geometry-point-requires t c κs = ?
-
--- src/geometry.rt:141:17
-geometry·geometry-same-length : (t : ℕ) → geometry·geometry-lts.Need-same-length (
-  header-reads.Asked,
-  header-reads.Learnt,
-  point-reads.Asked,
-  point-reads.Learnt,
-  line-string-reads.Asked,
-  line-string-reads.Learnt,
-  read-u32-reads.Asked,
-  read-u32-reads.Learnt,
-  rings-reads.Asked,
-  rings-reads.Learnt,
-  close-reads.Asked,
-  close-reads.Learnt,
-  parent-of-reads.Asked,
-  parent-of-reads.Learnt,
-  geometry-collection·collection-below t,
-  geometry-collection·collection.Post,
-) (geometry·geometry-at t) geometry·geometry.Post
-geometry·geometry-same-length t c = ?
-
--- src/geometry.rt:141:17
-geometry·geometry-returns : (t : ℕ) → geometry·geometry-lts.Need-returns (
-  header-reads.Asked,
-  header-reads.Learnt,
-  point-reads.Asked,
-  point-reads.Learnt,
-  line-string-reads.Asked,
-  line-string-reads.Learnt,
-  read-u32-reads.Asked,
-  read-u32-reads.Learnt,
-  rings-reads.Asked,
-  rings-reads.Learnt,
-  close-reads.Asked,
-  close-reads.Learnt,
-  parent-of-reads.Asked,
-  parent-of-reads.Learnt,
-  geometry-collection·collection-below t,
-  geometry-collection·collection.Post,
-) (geometry·geometry-at t) geometry·geometry.Post
-geometry·geometry-returns t c = ?
-
--- src/geometry.rt:144:17
-geometry·geometry-line-string-requires : (t : ℕ) → geometry·geometry-lts.Need-line-string-requires (
-  header-reads.Asked,
-  header-reads.Learnt,
-  point-reads.Asked,
-  point-reads.Learnt,
-  line-string-reads.Asked,
-  line-string-reads.Learnt,
-  read-u32-reads.Asked,
-  read-u32-reads.Learnt,
-  rings-reads.Asked,
-  rings-reads.Learnt,
-  close-reads.Asked,
-  close-reads.Learnt,
-  parent-of-reads.Asked,
-  parent-of-reads.Learnt,
-  geometry-collection·collection-below t,
-  geometry-collection·collection.Post,
-) (geometry·geometry-at t) geometry·geometry.Post
-geometry·geometry-line-string-requires t c κs = ?
-
--- src/geometry.rt:144:17
-geometry·geometry-same-length-2 : (t : ℕ) → geometry·geometry-lts.Need-same-length-2 (
-  header-reads.Asked,
-  header-reads.Learnt,
-  point-reads.Asked,
-  point-reads.Learnt,
-  line-string-reads.Asked,
-  line-string-reads.Learnt,
-  read-u32-reads.Asked,
-  read-u32-reads.Learnt,
-  rings-reads.Asked,
-  rings-reads.Learnt,
-  close-reads.Asked,
-  close-reads.Learnt,
-  parent-of-reads.Asked,
-  parent-of-reads.Learnt,
-  geometry-collection·collection-below t,
-  geometry-collection·collection.Post,
-) (geometry·geometry-at t) geometry·geometry.Post
-geometry·geometry-same-length-2 t c = ?
-
--- src/geometry.rt:144:17
-geometry·geometry-returns-2 : (t : ℕ) → geometry·geometry-lts.Need-returns-2 (
-  header-reads.Asked,
-  header-reads.Learnt,
-  point-reads.Asked,
-  point-reads.Learnt,
-  line-string-reads.Asked,
-  line-string-reads.Learnt,
-  read-u32-reads.Asked,
-  read-u32-reads.Learnt,
-  rings-reads.Asked,
-  rings-reads.Learnt,
-  close-reads.Asked,
-  close-reads.Learnt,
-  parent-of-reads.Asked,
-  parent-of-reads.Learnt,
-  geometry-collection·collection-below t,
-  geometry-collection·collection.Post,
-) (geometry·geometry-at t) geometry·geometry.Post
-geometry·geometry-returns-2 t c = ?
-
--- src/geometry.rt:147:16
-geometry·geometry-sub-if3 : (t : ℕ) → geometry·geometry-lts.Need-sub-if3 (
-  header-reads.Asked,
-  header-reads.Learnt,
-  point-reads.Asked,
-  point-reads.Learnt,
-  line-string-reads.Asked,
-  line-string-reads.Learnt,
-  read-u32-reads.Asked,
-  read-u32-reads.Learnt,
-  rings-reads.Asked,
-  rings-reads.Learnt,
-  close-reads.Asked,
-  close-reads.Learnt,
-  parent-of-reads.Asked,
-  parent-of-reads.Learnt,
-  geometry-collection·collection-below t,
-  geometry-collection·collection.Post,
-) (geometry·geometry-at t) geometry·geometry.Post
-geometry·geometry-sub-if3 t c = ?
-
--- src/geometry.rt:148:17
-geometry·geometry-returns-3 : (t : ℕ) → geometry·geometry-lts.Need-returns-3 (
-  header-reads.Asked,
-  header-reads.Learnt,
-  point-reads.Asked,
-  point-reads.Learnt,
-  line-string-reads.Asked,
-  line-string-reads.Learnt,
-  read-u32-reads.Asked,
-  read-u32-reads.Learnt,
-  rings-reads.Asked,
-  rings-reads.Learnt,
-  close-reads.Asked,
-  close-reads.Learnt,
-  parent-of-reads.Asked,
-  parent-of-reads.Learnt,
-  geometry-collection·collection-below t,
-  geometry-collection·collection.Post,
-) (geometry·geometry-at t) geometry·geometry.Post
-geometry·geometry-returns-3 t c = ?
-
--- src/geometry.rt:152:25
-geometry·geometry-read-u32-requires : (t : ℕ) → geometry·geometry-lts.Need-read-u32-requires (
-  header-reads.Asked,
-  header-reads.Learnt,
-  point-reads.Asked,
-  point-reads.Learnt,
-  line-string-reads.Asked,
-  line-string-reads.Learnt,
-  read-u32-reads.Asked,
-  read-u32-reads.Learnt,
-  rings-reads.Asked,
-  rings-reads.Learnt,
-  close-reads.Asked,
-  close-reads.Learnt,
-  parent-of-reads.Asked,
-  parent-of-reads.Learnt,
-  geometry-collection·collection-below t,
-  geometry-collection·collection.Post,
-) (geometry·geometry-at t) geometry·geometry.Post
-geometry·geometry-read-u32-requires t c κs = ?
-
--- src/geometry.rt:152:25
-geometry·geometry-cast-count : (t : ℕ) → geometry·geometry-lts.Need-cast-count (
-  header-reads.Asked,
-  header-reads.Learnt,
-  point-reads.Asked,
-  point-reads.Learnt,
-  line-string-reads.Asked,
-  line-string-reads.Learnt,
-  read-u32-reads.Asked,
-  read-u32-reads.Learnt,
-  rings-reads.Asked,
-  rings-reads.Learnt,
-  close-reads.Asked,
-  close-reads.Learnt,
-  parent-of-reads.Asked,
-  parent-of-reads.Learnt,
-  geometry-collection·collection-below t,
-  geometry-collection·collection.Post,
-) (geometry·geometry-at t) geometry·geometry.Post
-geometry·geometry-cast-count t c = ?
-
--- src/geometry.rt:153:31
-geometry·geometry-add-collection : (t : ℕ) → geometry·geometry-lts.Need-add-collection (
-  header-reads.Asked,
-  header-reads.Learnt,
-  point-reads.Asked,
-  point-reads.Learnt,
-  line-string-reads.Asked,
-  line-string-reads.Learnt,
-  read-u32-reads.Asked,
-  read-u32-reads.Learnt,
-  rings-reads.Asked,
-  rings-reads.Learnt,
-  close-reads.Asked,
-  close-reads.Learnt,
-  parent-of-reads.Asked,
-  parent-of-reads.Learnt,
-  geometry-collection·collection-below t,
-  geometry-collection·collection.Post,
-) (geometry·geometry-at t) geometry·geometry.Post
-geometry·geometry-add-collection t c = ?
-
--- src/geometry.rt:160:25
-geometry·geometry-add-t31 : (t : ℕ) → geometry·geometry-lts.Need-add-t31 (
-  header-reads.Asked,
-  header-reads.Learnt,
-  point-reads.Asked,
-  point-reads.Learnt,
-  line-string-reads.Asked,
-  line-string-reads.Learnt,
-  read-u32-reads.Asked,
-  read-u32-reads.Learnt,
-  rings-reads.Asked,
-  rings-reads.Learnt,
-  close-reads.Asked,
-  close-reads.Learnt,
-  parent-of-reads.Asked,
-  parent-of-reads.Learnt,
-  geometry-collection·collection-below t,
-  geometry-collection·collection.Post,
-) (geometry·geometry-at t) geometry·geometry.Post
-geometry·geometry-add-t31 t c = ?
-
--- src/geometry.rt:161:21
-geometry·geometry-add-rings : (t : ℕ) → geometry·geometry-lts.Need-add-rings (
-  header-reads.Asked,
-  header-reads.Learnt,
-  point-reads.Asked,
-  point-reads.Learnt,
-  line-string-reads.Asked,
-  line-string-reads.Learnt,
-  read-u32-reads.Asked,
-  read-u32-reads.Learnt,
-  rings-reads.Asked,
-  rings-reads.Learnt,
-  close-reads.Asked,
-  close-reads.Learnt,
-  parent-of-reads.Asked,
-  parent-of-reads.Learnt,
-  geometry-collection·collection-below t,
-  geometry-collection·collection.Post,
-) (geometry·geometry-at t) geometry·geometry.Post
-geometry·geometry-add-rings t c = ?
-
--- src/geometry.rt:155:21
-geometry·geometry-rings-requires : (t : ℕ) → geometry·geometry-lts.Need-rings-requires (
-  header-reads.Asked,
-  header-reads.Learnt,
-  point-reads.Asked,
-  point-reads.Learnt,
-  line-string-reads.Asked,
-  line-string-reads.Learnt,
-  read-u32-reads.Asked,
-  read-u32-reads.Learnt,
-  rings-reads.Asked,
-  rings-reads.Learnt,
-  close-reads.Asked,
-  close-reads.Learnt,
-  parent-of-reads.Asked,
-  parent-of-reads.Learnt,
-  geometry-collection·collection-below t,
-  geometry-collection·collection.Post,
-) (geometry·geometry-at t) geometry·geometry.Post
-geometry·geometry-rings-requires t c κs = ?
-
--- src/geometry.rt:166:17
-geometry·geometry-close-requires : (t : ℕ) → geometry·geometry-lts.Need-close-requires (
-  header-reads.Asked,
-  header-reads.Learnt,
-  point-reads.Asked,
-  point-reads.Learnt,
-  line-string-reads.Asked,
-  line-string-reads.Learnt,
-  read-u32-reads.Asked,
-  read-u32-reads.Learnt,
-  rings-reads.Asked,
-  rings-reads.Learnt,
-  close-reads.Asked,
-  close-reads.Learnt,
-  parent-of-reads.Asked,
-  parent-of-reads.Learnt,
-  geometry-collection·collection-below t,
-  geometry-collection·collection.Post,
-) (geometry·geometry-at t) geometry·geometry.Post
-geometry·geometry-close-requires t c κs = ?
-
--- src/geometry.rt:166:17
-geometry·geometry-same-length-3 : (t : ℕ) → geometry·geometry-lts.Need-same-length-3 (
-  header-reads.Asked,
-  header-reads.Learnt,
-  point-reads.Asked,
-  point-reads.Learnt,
-  line-string-reads.Asked,
-  line-string-reads.Learnt,
-  read-u32-reads.Asked,
-  read-u32-reads.Learnt,
-  rings-reads.Asked,
-  rings-reads.Learnt,
-  close-reads.Asked,
-  close-reads.Learnt,
-  parent-of-reads.Asked,
-  parent-of-reads.Learnt,
-  geometry-collection·collection-below t,
-  geometry-collection·collection.Post,
-) (geometry·geometry-at t) geometry·geometry.Post
-geometry·geometry-same-length-3 t c = ?
-
--- src/geometry.rt:166:17
-geometry·geometry-returns-4 : (t : ℕ) → geometry·geometry-lts.Need-returns-4 (
-  header-reads.Asked,
-  header-reads.Learnt,
-  point-reads.Asked,
-  point-reads.Learnt,
-  line-string-reads.Asked,
-  line-string-reads.Learnt,
-  read-u32-reads.Asked,
-  read-u32-reads.Learnt,
-  rings-reads.Asked,
-  rings-reads.Learnt,
-  close-reads.Asked,
-  close-reads.Learnt,
-  parent-of-reads.Asked,
-  parent-of-reads.Learnt,
-  geometry-collection·collection-below t,
-  geometry-collection·collection.Post,
-) (geometry·geometry-at t) geometry·geometry.Post
-geometry·geometry-returns-4 t c = ?
-
--- src/geometry.rt:173:21
-geometry·geometry-add-t26 : (t : ℕ) → geometry·geometry-lts.Need-add-t26 (
-  header-reads.Asked,
-  header-reads.Learnt,
-  point-reads.Asked,
-  point-reads.Learnt,
-  line-string-reads.Asked,
-  line-string-reads.Learnt,
-  read-u32-reads.Asked,
-  read-u32-reads.Learnt,
-  rings-reads.Asked,
-  rings-reads.Learnt,
-  close-reads.Asked,
-  close-reads.Learnt,
-  parent-of-reads.Asked,
-  parent-of-reads.Learnt,
-  geometry-collection·collection-below t,
-  geometry-collection·collection.Post,
-) (geometry·geometry-at t) geometry·geometry.Post
-geometry·geometry-add-t26 t c = ?
-
--- src/geometry.rt:174:17
-geometry·geometry-add-collection-2 : (t : ℕ) → geometry·geometry-lts.Need-add-collection-2 (
-  header-reads.Asked,
-  header-reads.Learnt,
-  point-reads.Asked,
-  point-reads.Learnt,
-  line-string-reads.Asked,
-  line-string-reads.Learnt,
-  read-u32-reads.Asked,
-  read-u32-reads.Learnt,
-  rings-reads.Asked,
-  rings-reads.Learnt,
-  close-reads.Asked,
-  close-reads.Learnt,
-  parent-of-reads.Asked,
-  parent-of-reads.Learnt,
-  geometry-collection·collection-below t,
-  geometry-collection·collection.Post,
-) (geometry·geometry-at t) geometry·geometry.Post
-geometry·geometry-add-collection-2 t c = ?
-
--- src/geometry.rt:175:17
-geometry·geometry-parent-of-requires : (t : ℕ) → geometry·geometry-lts.Need-parent-of-requires (
-  header-reads.Asked,
-  header-reads.Learnt,
-  point-reads.Asked,
-  point-reads.Learnt,
-  line-string-reads.Asked,
-  line-string-reads.Learnt,
-  read-u32-reads.Asked,
-  read-u32-reads.Learnt,
-  rings-reads.Asked,
-  rings-reads.Learnt,
-  close-reads.Asked,
-  close-reads.Learnt,
-  parent-of-reads.Asked,
-  parent-of-reads.Learnt,
-  geometry-collection·collection-below t,
-  geometry-collection·collection.Post,
-) (geometry·geometry-at t) geometry·geometry.Post
-geometry·geometry-parent-of-requires t c κs = ?
-
--- src/geometry.rt:168:17
-geometry·geometry-collection-requires : (t : ℕ) → geometry·geometry-lts.Need-collection-requires (
-  header-reads.Asked,
-  header-reads.Learnt,
-  point-reads.Asked,
-  point-reads.Learnt,
-  line-string-reads.Asked,
-  line-string-reads.Learnt,
-  read-u32-reads.Asked,
-  read-u32-reads.Learnt,
-  rings-reads.Asked,
-  rings-reads.Learnt,
-  close-reads.Asked,
-  close-reads.Learnt,
-  parent-of-reads.Asked,
-  parent-of-reads.Learnt,
-  geometry-collection·collection-below t,
-  geometry-collection·collection.Post,
-) (geometry·geometry-at t) geometry·geometry.Post
-geometry·geometry-collection-requires t c κs = ?
-
--- src/geometry.rt:178:13
-geometry·geometry-close-requires-2 : (t : ℕ) → geometry·geometry-lts.Need-close-requires-2 (
-  header-reads.Asked,
-  header-reads.Learnt,
-  point-reads.Asked,
-  point-reads.Learnt,
-  line-string-reads.Asked,
-  line-string-reads.Learnt,
-  read-u32-reads.Asked,
-  read-u32-reads.Learnt,
-  rings-reads.Asked,
-  rings-reads.Learnt,
-  close-reads.Asked,
-  close-reads.Learnt,
-  parent-of-reads.Asked,
-  parent-of-reads.Learnt,
-  geometry-collection·collection-below t,
-  geometry-collection·collection.Post,
-) (geometry·geometry-at t) geometry·geometry.Post
-geometry·geometry-close-requires-2 t c κs = ?
-
--- src/geometry.rt:123:1
-geometry·geometry-returns-5 : (t : ℕ) → geometry·geometry-lts.Need-returns-5 (
-  header-reads.Asked,
-  header-reads.Learnt,
-  point-reads.Asked,
-  point-reads.Learnt,
-  line-string-reads.Asked,
-  line-string-reads.Learnt,
-  read-u32-reads.Asked,
-  read-u32-reads.Learnt,
-  rings-reads.Asked,
-  rings-reads.Learnt,
-  close-reads.Asked,
-  close-reads.Learnt,
-  parent-of-reads.Asked,
-  parent-of-reads.Learnt,
-  geometry-collection·collection-below t,
-  geometry-collection·collection.Post,
-) (geometry·geometry-at t) geometry·geometry.Post
-geometry·geometry-returns-5 t c = ?
-
--- src/geometry.rt:123:1
-geometry·geometry-same-length-4 : (t : ℕ) → geometry·geometry-lts.Need-same-length-4 (
-  header-reads.Asked,
-  header-reads.Learnt,
-  point-reads.Asked,
-  point-reads.Learnt,
-  line-string-reads.Asked,
-  line-string-reads.Learnt,
-  read-u32-reads.Asked,
-  read-u32-reads.Learnt,
-  rings-reads.Asked,
-  rings-reads.Learnt,
-  close-reads.Asked,
-  close-reads.Learnt,
-  parent-of-reads.Asked,
-  parent-of-reads.Learnt,
-  geometry-collection·collection-below t,
-  geometry-collection·collection.Post,
-) (geometry·geometry-at t) geometry·geometry.Post
-geometry·geometry-same-length-4 t c = ?
-
--- src/geometry.rt:123:1
-geometry·geometry-returns-6 : (t : ℕ) → geometry·geometry-lts.Need-returns-6 (
-  header-reads.Asked,
-  header-reads.Learnt,
-  point-reads.Asked,
-  point-reads.Learnt,
-  line-string-reads.Asked,
-  line-string-reads.Learnt,
-  read-u32-reads.Asked,
-  read-u32-reads.Learnt,
-  rings-reads.Asked,
-  rings-reads.Learnt,
-  close-reads.Asked,
-  close-reads.Learnt,
-  parent-of-reads.Asked,
-  parent-of-reads.Learnt,
-  geometry-collection·collection-below t,
-  geometry-collection·collection.Post,
-) (geometry·geometry-at t) geometry·geometry.Post
-geometry·geometry-returns-6 t c = ?
-
-abbrev geometry-collection·collection-Inv-loop : geometry-collection·collection-lts.InvT-loop
-geometry-collection·collection-Inv-loop buf out₀ old level parent count i₀ p₀ q₀ all₀ out i p q all =
-    ?
-
-abbrev geometry-collection·collection-μ-loop : geometry-collection·collection-lts.MeasureT-loop
-geometry-collection·collection-μ-loop buf out₀ old level parent count i₀ p₀ q₀ all₀ out i p q all =
-    ?
-
--- src/geometry_collection.rt:34:5
-geometry-collection·collection-loop-holds :
-    (t : ℕ) → geometry-collection·collection-lts.Need-loop-holds (
-      geometry·geometry-below t,
-      geometry·geometry.Post,
-      both-reads.Asked,
-      both-reads.Learnt,
-    )
-    (geometry-collection·collection-at t)
-    geometry-collection·collection.Post
-    geometry-collection·collection-Inv-loop
-    geometry-collection·collection-μ-loop
-geometry-collection·collection-loop-holds t c = ?
-
--- src/geometry_collection.rt:35:15
-geometry-collection·collection-geometry-requires :
-    (t : ℕ) → geometry-collection·collection-lts.Need-geometry-requires (
-      geometry·geometry-below t,
-      geometry·geometry.Post,
-      both-reads.Asked,
-      both-reads.Learnt,
-    )
-    (geometry-collection·collection-at t)
-    geometry-collection·collection.Post
-    geometry-collection·collection-Inv-loop
-    geometry-collection·collection-μ-loop
-geometry-collection·collection-geometry-requires t c κs = ?
-
--- src/geometry_collection.rt:37:17
-geometry-collection·collection-enum-known-next :
-    (t : ℕ) → geometry-collection·collection-lts.Need-enum-known-next (
-      geometry·geometry-below t,
-      geometry·geometry.Post,
-      both-reads.Asked,
-      both-reads.Learnt,
-    )
-    (geometry-collection·collection-at t)
-    geometry-collection·collection.Post
-    geometry-collection·collection-Inv-loop
-    geometry-collection·collection-μ-loop
-geometry-collection·collection-enum-known-next t c = ?
-
--- src/geometry_collection.rt:43:17
-geometry-collection·collection-both-requires :
-    (t : ℕ) → geometry-collection·collection-lts.Need-both-requires (
-      geometry·geometry-below t,
-      geometry·geometry.Post,
-      both-reads.Asked,
-      both-reads.Learnt,
-    )
-    (geometry-collection·collection-at t)
-    geometry-collection·collection.Post
-    geometry-collection·collection-Inv-loop
-    geometry-collection·collection-μ-loop
-geometry-collection·collection-both-requires t c κs = ?
-
--- src/geometry_collection.rt:45:27
-geometry-collection·collection-enum-known-why :
-    (t : ℕ) → geometry-collection·collection-lts.Need-enum-known-why (
-      geometry·geometry-below t,
-      geometry·geometry.Post,
-      both-reads.Asked,
-      both-reads.Learnt,
-    )
-    (geometry-collection·collection-at t)
-    geometry-collection·collection.Post
-    geometry-collection·collection-Inv-loop
-    geometry-collection·collection-μ-loop
-geometry-collection·collection-enum-known-why t c = ?
-
--- src/geometry_collection.rt:46:17
-geometry-collection·collection-same-length :
-    (t : ℕ) → geometry-collection·collection-lts.Need-same-length (
-      geometry·geometry-below t,
-      geometry·geometry.Post,
-      both-reads.Asked,
-      both-reads.Learnt,
-    )
-    (geometry-collection·collection-at t)
-    geometry-collection·collection.Post
-    geometry-collection·collection-Inv-loop
-    geometry-collection·collection-μ-loop
-geometry-collection·collection-same-length t c = ?
-
--- src/geometry_collection.rt:46:17
-geometry-collection·collection-returns : (t : ℕ) → geometry-collection·collection-lts.Need-returns (
-  geometry·geometry-below t,
-  geometry·geometry.Post,
-  both-reads.Asked,
-  both-reads.Learnt,
-)
-    (geometry-collection·collection-at t)
-    geometry-collection·collection.Post
-    geometry-collection·collection-Inv-loop
-    geometry-collection·collection-μ-loop
-geometry-collection·collection-returns t c = ?
-
--- src/geometry_collection.rt:49:9
-geometry-collection·collection-add-i : (t : ℕ) → geometry-collection·collection-lts.Need-add-i (
-  geometry·geometry-below t,
-  geometry·geometry.Post,
-  both-reads.Asked,
-  both-reads.Learnt,
-)
-    (geometry-collection·collection-at t)
-    geometry-collection·collection.Post
-    geometry-collection·collection-Inv-loop
-    geometry-collection·collection-μ-loop
-geometry-collection·collection-add-i t c = ?
-
--- src/geometry_collection.rt:34:5
-geometry-collection·collection-loop-less :
-    (t : ℕ) → geometry-collection·collection-lts.Need-loop-less (
-      geometry·geometry-below t,
-      geometry·geometry.Post,
-      both-reads.Asked,
-      both-reads.Learnt,
-    )
-    (geometry-collection·collection-at t)
-    geometry-collection·collection.Post
-    geometry-collection·collection-Inv-loop
-    geometry-collection·collection-μ-loop
-geometry-collection·collection-loop-less t c = ?
-
--- src/geometry_collection.rt:34:5
-geometry-collection·collection-loop-again :
-    (t : ℕ) → geometry-collection·collection-lts.Need-loop-again (
-      geometry·geometry-below t,
-      geometry·geometry.Post,
-      both-reads.Asked,
-      both-reads.Learnt,
-    )
-    (geometry-collection·collection-at t)
-    geometry-collection·collection.Post
-    geometry-collection·collection-Inv-loop
-    geometry-collection·collection-μ-loop
-geometry-collection·collection-loop-again t c = ?
-
--- src/geometry_collection.rt:17:1
-geometry-collection·collection-same-length-2 :
-    (t : ℕ) → geometry-collection·collection-lts.Need-same-length-2 (
-      geometry·geometry-below t,
-      geometry·geometry.Post,
-      both-reads.Asked,
-      both-reads.Learnt,
-    )
-    (geometry-collection·collection-at t)
-    geometry-collection·collection.Post
-    geometry-collection·collection-Inv-loop
-    geometry-collection·collection-μ-loop
-geometry-collection·collection-same-length-2 t c = ?
-
--- src/geometry_collection.rt:17:1
-geometry-collection·collection-returns-2 :
-    (t : ℕ) → geometry-collection·collection-lts.Need-returns-2 (
-      geometry·geometry-below t,
-      geometry·geometry.Post,
-      both-reads.Asked,
-      both-reads.Learnt,
-    )
-    (geometry-collection·collection-at t)
-    geometry-collection·collection.Post
-    geometry-collection·collection-Inv-loop
-    geometry-collection·collection-μ-loop
-geometry-collection·collection-returns-2 t c = ?
+abbrev μ-loop : collection-lts.MeasureT-loop
+μ-loop buf out₀ old level parent count i₀ p₀ q₀ all₀ out i p q all = count - i
 
 pub +geometry·geometry+geometry-collection·collection-spec : {M : Type 1} → statement M
 +geometry·geometry+geometry-collection·collection-spec =
-    close μ-geometry·geometry μ-geometry-collection·collection (λ t. geometry·geometry-lts.spec (
+    close μ-geometry μ-collection (λ t. geometry-lts.spec (
       header-reads.Asked,
       header-reads.Learnt,
       point-reads.Asked,
@@ -835,54 +82,376 @@ pub +geometry·geometry+geometry-collection·collection-spec : {M : Type 1} → 
       close-reads.Learnt,
       parent-of-reads.Asked,
       parent-of-reads.Learnt,
-      geometry-collection·collection-below t,
-      geometry-collection·collection.Post,
+      collection-below t,
+      collection.Post,
     )
-    (geometry·geometry-at t)
-    geometry·geometry.Post
-    (geometry·geometry-header-requires t)
-    (geometry·geometry-enum-known-answer t)
-    (geometry·geometry-enum-known-answer-2 t)
-    (geometry·geometry-point-requires t)
-    (geometry·geometry-same-length t)
-    (geometry·geometry-returns t)
-    (geometry·geometry-line-string-requires t)
-    (geometry·geometry-same-length-2 t)
-    (geometry·geometry-returns-2 t)
-    (geometry·geometry-sub-if3 t)
-    (geometry·geometry-returns-3 t)
-    (geometry·geometry-read-u32-requires t)
-    (geometry·geometry-cast-count t)
-    (geometry·geometry-add-collection t)
-    (geometry·geometry-add-t31 t)
-    (geometry·geometry-add-rings t)
-    (geometry·geometry-rings-requires t)
-    (geometry·geometry-close-requires t)
-    (geometry·geometry-same-length-3 t)
-    (geometry·geometry-returns-4 t)
-    (geometry·geometry-add-t26 t)
-    (geometry·geometry-add-collection-2 t)
-    (geometry·geometry-parent-of-requires t)
-    (geometry·geometry-collection-requires t)
-    (geometry·geometry-close-requires-2 t)
-    (geometry·geometry-returns-5 t)
-    (geometry·geometry-same-length-4 t)
-    (geometry·geometry-returns-6 t))
-    λ t. geometry-collection·collection-lts.spec
-    (geometry·geometry-below t, geometry·geometry.Post, both-reads.Asked, both-reads.Learnt)
-    (geometry-collection·collection-at t)
-    geometry-collection·collection.Post
-    geometry-collection·collection-Inv-loop
-    geometry-collection·collection-μ-loop
-    (geometry-collection·collection-loop-holds t)
-    (geometry-collection·collection-geometry-requires t)
-    (geometry-collection·collection-enum-known-next t)
-    (geometry-collection·collection-both-requires t)
-    (geometry-collection·collection-enum-known-why t)
-    (geometry-collection·collection-same-length t)
-    (geometry-collection·collection-returns t)
-    (geometry-collection·collection-add-i t)
-    (geometry-collection·collection-loop-less t)
-    (geometry-collection·collection-loop-again t)
-    (geometry-collection·collection-same-length-2 t)
-    (geometry-collection·collection-returns-2 t)
+    (geometry-at t)
+    geometry.Post
+    (λ c κs. search needs)
+    (λ c. search needs)
+    (λ c. search needs)
+    -- a Point
+    (λ c κs.
+    let k = c .before .before in
+    let s = k .before .before .before .before .before .before in
+    let t = s .before in
+    let a = t .args in
+    let p = t .pre .1 in
+    let b = bytes-known (now (a .buf)) (s .shared-slice-known .given) in
+    let hd = k .before .answer2 .given .0 .0 in
+    let o = opened-head (now (a .buf)) b (asksOf (a .parent)) (a .level) (a .at .0) hd (ap headMeant (sym (k .before .answer2 .given .1)) ∙ k .before .before .before .header .ensures) in
+    (p .0, p .1, omega (arith, o .onward), o .within, omega (arith, p .2 .1), c .before .if1 .taken))
+    (λ c. search needs)
+    (λ c.
+    let y = c .before .before in
+    let k = y .before .before .before in
+    let s = k .before .before .before .before .before .before in
+    let t = s .before in
+    let a = t .args in
+    let p = t .pre .1 in
+    let b = bytes-known (now (a .buf)) (s .shared-slice-known .given) in
+    let hd = k .before .answer2 .given .0 .0 in
+    let o = opened-head (now (a .buf)) b (asksOf (a .parent)) (a .level) (a .at .0) hd (ap headMeant (sym (k .before .answer2 .given .1)) ∙ k .before .before .before .header .ensures) in
+    y .point .ensures (o .h) (o .heads) ∙ opened-whole (now (a .buf)) b (asksOf (a .parent)) (a .level) (a .at .0) (p .2) (now (a .old)) (now (a .out)) (a .row .0) hd o)
+    -- a LineString
+    (λ c κs.
+    let e1 = c .before .before in
+    let k = e1 .before in
+    let s = k .before .before .before .before .before .before in
+    let t = s .before in
+    let a = t .args in
+    let p = t .pre .1 in
+    let b = bytes-known (now (a .buf)) (s .shared-slice-known .given) in
+    let hd = k .before .answer2 .given .0 .0 in
+    let o = opened-head (now (a .buf)) b (asksOf (a .parent)) (a .level) (a .at .0) hd (ap headMeant (sym (k .before .answer2 .given .1)) ∙ k .before .before .before .header .ensures) in
+    (p .0, p .1, omega (arith, o .onward), o .within, omega (arith, p .2 .1), omega (arith, c .before .if2 .taken), e1 .if1 .left))
+    (λ c. search needs)
+    (λ c.
+    let y = c .before .before in
+    let k = y .before .before .before .before in
+    let s = k .before .before .before .before .before .before in
+    let t = s .before in
+    let a = t .args in
+    let p = t .pre .1 in
+    let b = bytes-known (now (a .buf)) (s .shared-slice-known .given) in
+    let hd = k .before .answer2 .given .0 .0 in
+    let o = opened-head (now (a .buf)) b (asksOf (a .parent)) (a .level) (a .at .0) hd (ap headMeant (sym (k .before .answer2 .given .1)) ∙ k .before .before .before .header .ensures) in
+    y .line-string .ensures (o .h) (o .heads) ∙ opened-whole (now (a .buf)) b (asksOf (a .parent)) (a .level) (a .at .0) (p .2) (now (a .old)) (now (a .out)) (a .row .0) hd o)
+    -- no count
+    (λ c.
+    let k = c .before .before .before .before in
+    let s = k .before .before .before .before .before .before in
+    let t = s .before in
+    let a = t .args in
+    let p = t .pre .1 in
+    let b = bytes-known (now (a .buf)) (s .shared-slice-known .given) in
+    let hd = k .before .answer2 .given .0 .0 in
+    let o = opened-head (now (a .buf)) b (asksOf (a .parent)) (a .level) (a .at .0) hd (ap headMeant (sym (k .before .answer2 .given .1)) ∙ k .before .before .before .header .ensures) in
+    o .within)
+    (λ c.
+    let e2 = c .before .before .before in
+    let e1 = e2 .before in
+    let k = e1 .before in
+    let s = k .before .before .before .before .before .before in
+    let t = s .before in
+    let a = t .args in
+    let p = t .pre .1 in
+    let b = bytes-known (now (a .buf)) (s .shared-slice-known .given) in
+    let hd = k .before .answer2 .given .0 .0 in
+    let o = opened-head (now (a .buf)) b (asksOf (a .parent)) (a .level) (a .at .0) hd (ap headMeant (sym (k .before .answer2 .given .1)) ∙ k .before .before .before .header .ensures) in
+    let three : 3 ≤ hd .kind = omega (arith, o .kind, e1 .if1 .left, e2 .if2 .left) in
+    let same : o .h .kind ≡ hd .kind = ap (λ (x : Head). x .kind) (o .heads .same) in
+    ap (whole (now (a .old)) (a .row .0) (a .level) (a .at .0) true (now (a .out))) (parent-2 (now (a .buf)) (o .h) (a .level) (hd .next .0) 0 (omega arith) (c .if3 .taken))
+    ∙ opened-whole (now (a .buf)) b (asksOf (a .parent)) (a .level) (a .at .0) (p .2) (now (a .old)) (now (a .out)) (a .row .0) hd o)
+    (λ c κs.
+    let k = c .before .before .before .before .before in
+    let s = k .before .before .before .before .before .before in
+    let t = s .before in
+    let a = t .args in
+    let p = t .pre .1 in
+    let b = bytes-known (now (a .buf)) (s .shared-slice-known .given) in
+    let hd = k .before .answer2 .given .0 .0 in
+    let o = opened-head (now (a .buf)) b (asksOf (a .parent)) (a .level) (a .at .0) hd (ap headMeant (sym (k .before .answer2 .given .1)) ∙ k .before .before .before .header .ensures) in
+    omega (arith, o .within, c .if3 .left))
+    (λ c. search needs)
+    (λ c.
+    let u = c in
+    let rd = u .before in
+    let e3 = rd .before in
+    let e2 = e3 .before .before .before in
+    let e1 = e2 .before in
+    let k = e1 .before in
+    let s = k .before .before .before .before .before .before in
+    let t = s .before in
+    let a = t .args in
+    let p = t .pre .1 in
+    let b = bytes-known (now (a .buf)) (s .shared-slice-known .given) in
+    let hd = k .before .answer2 .given .0 .0 in
+    let o = opened-head (now (a .buf)) b (asksOf (a .parent)) (a .level) (a .at .0) hd (ap headMeant (sym (k .before .answer2 .given .1)) ∙ k .before .before .before .header .ensures) in
+    omega (arith, o .within, p .0))
+    -- rings
+    (λ c.
+    let u = c .before .before .before in
+    let rd = u .before in
+    let e3 = rd .before in
+    let e2 = e3 .before .before .before in
+    let e1 = e2 .before in
+    let k = e1 .before in
+    let s = k .before .before .before .before .before .before in
+    let t = s .before in
+    let a = t .args in
+    let p = t .pre .1 in
+    let b = bytes-known (now (a .buf)) (s .shared-slice-known .given) in
+    let hd = k .before .answer2 .given .0 .0 in
+    let o = opened-head (now (a .buf)) b (asksOf (a .parent)) (a .level) (a .at .0) hd (ap headMeant (sym (k .before .answer2 .given .1)) ∙ k .before .before .before .header .ensures) in
+    omega (arith, o .onward, o .within, p .0, p .1))
+    (λ c.
+    let u = c .before .before .before in
+    let rd = u .before in
+    let e3 = rd .before in
+    let e2 = e3 .before .before .before in
+    let e1 = e2 .before in
+    let k = e1 .before in
+    let s = k .before .before .before .before .before .before in
+    let t = s .before in
+    let a = t .args in
+    let p = t .pre .1 in
+    let b = bytes-known (now (a .buf)) (s .shared-slice-known .given) in
+    let hd = k .before .answer2 .given .0 .0 in
+    let o = opened-head (now (a .buf)) b (asksOf (a .parent)) (a .level) (a .at .0) hd (ap headMeant (sym (k .before .answer2 .given .1)) ∙ k .before .before .before .header .ensures) in
+    omega (arith, p .2 .1))
+    (λ c κs.
+    let u = c .before .before .before in
+    let rd = u .before in
+    let e3 = rd .before in
+    let e2 = e3 .before .before .before in
+    let e1 = e2 .before in
+    let k = e1 .before in
+    let s = k .before .before .before .before .before .before in
+    let t = s .before in
+    let a = t .args in
+    let p = t .pre .1 in
+    let b = bytes-known (now (a .buf)) (s .shared-slice-known .given) in
+    let hd = k .before .answer2 .given .0 .0 in
+    let o = opened-head (now (a .buf)) b (asksOf (a .parent)) (a .level) (a .at .0) hd (ap headMeant (sym (k .before .answer2 .given .1)) ∙ k .before .before .before .header .ensures) in
+    (p .0, omega (arith, o .onward, p .1), omega (arith, o .within, e3 .if3 .left), omega (arith, p .2 .1)))
+    (λ c κs.
+    let r = c .before .before .before in
+    let u4 = r .before .before .before in
+    let u = u4 .before in
+    let rd = u .before in
+    let e3 = rd .before in
+    let e2 = e3 .before .before .before in
+    let e1 = e2 .before in
+    let k = e1 .before in
+    let s = k .before .before .before .before .before .before in
+    let t = s .before in
+    let a = t .args in
+    let p = t .pre .1 in
+    let b = bytes-known (now (a .buf)) (s .shared-slice-known .given) in
+    let hd = k .before .answer2 .given .0 .0 in
+    let o = opened-head (now (a .buf)) b (asksOf (a .parent)) (a .level) (a .at .0) hd (ap headMeant (sym (k .before .answer2 .given .1)) ∙ k .before .before .before .header .ensures) in
+    let three : 3 ≤ hd .kind = omega (arith, o .kind, e1 .if1 .left, e2 .if2 .left) in
+    let same : o .h .kind ≡ hd .kind = ap (λ (x : Head). x .kind) (o .heads .same) in
+    let pl : inside (o .h) ≡ rings (hd .order) (hd .dimension) =
+    inside-rings (o .h) (hd .order) (hd .dimension) (same ∙ u4 .if4 .taken) (ap (λ (x : Head). x .order) (o .heads .same)) (ap (λ (x : Head). x .dimension) (o .heads .same)) in
+    closable (now (a .buf)) b (now (a .old)) (now (a .out)) (a .row .0) (a .level) (a .at .0) (rd .read-u32 .result) hd (o .h) (o .heads) three (e3 .if3 .left) (rd .read-u32 .ensures) (rings (hd .order) (hd .dimension)) pl (r .rings .result) (r .rings .last .1 .0) (r .rings .ensures) (p .0) (omega (arith, o .kind)) (omega (arith, p .2 .1)) (omega (arith, o .onward, o .within, p .0)))
+    (λ c. search needs)
+    (λ c.
+    let y = c .before .before in
+    let r = y .before .before .before .before in
+    let u4 = r .before .before .before in
+    let u = u4 .before in
+    let rd = u .before in
+    let e3 = rd .before in
+    let e2 = e3 .before .before .before in
+    let e1 = e2 .before in
+    let k = e1 .before in
+    let s = k .before .before .before .before .before .before in
+    let t = s .before in
+    let a = t .args in
+    let p = t .pre .1 in
+    let b = bytes-known (now (a .buf)) (s .shared-slice-known .given) in
+    let hd = k .before .answer2 .given .0 .0 in
+    let o = opened-head (now (a .buf)) b (asksOf (a .parent)) (a .level) (a .at .0) hd (ap headMeant (sym (k .before .answer2 .given .1)) ∙ k .before .before .before .header .ensures) in
+    let three : 3 ≤ hd .kind = omega (arith, o .kind, e1 .if1 .left, e2 .if2 .left) in
+    let same : o .h .kind ≡ hd .kind = ap (λ (x : Head). x .kind) (o .heads .same) in
+    let pl : inside (o .h) ≡ rings (hd .order) (hd .dimension) =
+    inside-rings (o .h) (hd .order) (hd .dimension) (same ∙ u4 .if4 .taken) (ap (λ (x : Head). x .order) (o .heads .same)) (ap (λ (x : Head). x .dimension) (o .heads .same)) in
+    y .close .ensures
+    ∙ close-whole (now (a .buf)) b (now (a .old)) (now (a .out)) (a .row .0) (a .level) (a .at .0) (rd .read-u32 .result) hd (o .h) (o .heads) three (e3 .if3 .left) (rd .read-u32 .ensures) (rings (hd .order) (hd .dimension)) pl (r .rings .result) (r .rings .last .1 .0) (r .rings .ensures)
+    ∙ opened-whole (now (a .buf)) b (asksOf (a .parent)) (a .level) (a .at .0) (p .2) (now (a .old)) (now (a .out)) (a .row .0) hd o)
+    -- full geometries
+    (λ c.
+    let u = c .before .before .before in
+    let rd = u .before in
+    let e3 = rd .before in
+    let e2 = e3 .before .before .before in
+    let e1 = e2 .before in
+    let k = e1 .before in
+    let s = k .before .before .before .before .before .before in
+    let t = s .before in
+    let a = t .args in
+    let p = t .pre .1 in
+    let b = bytes-known (now (a .buf)) (s .shared-slice-known .given) in
+    let hd = k .before .answer2 .given .0 .0 in
+    let o = opened-head (now (a .buf)) b (asksOf (a .parent)) (a .level) (a .at .0) hd (ap headMeant (sym (k .before .answer2 .given .1)) ∙ k .before .before .before .header .ensures) in
+    omega (arith, o .onward, o .within, p .0, p .1))
+    (λ c.
+    let u = c .before .before .before in
+    let rd = u .before in
+    let e3 = rd .before in
+    let e2 = e3 .before .before .before in
+    let e1 = e2 .before in
+    let k = e1 .before in
+    let s = k .before .before .before .before .before .before in
+    let t = s .before in
+    let a = t .args in
+    let p = t .pre .1 in
+    let b = bytes-known (now (a .buf)) (s .shared-slice-known .given) in
+    let hd = k .before .answer2 .given .0 .0 in
+    let o = opened-head (now (a .buf)) b (asksOf (a .parent)) (a .level) (a .at .0) hd (ap headMeant (sym (k .before .answer2 .given .1)) ∙ k .before .before .before .header .ensures) in
+    omega (arith, p .2 .1))
+    (λ c κs.
+    let u4 = c .before .before in
+    let u = u4 .before in
+    let rd = u .before in
+    let e3 = rd .before in
+    let e2 = e3 .before .before .before in
+    let e1 = e2 .before in
+    let k = e1 .before in
+    let s = k .before .before .before .before .before .before in
+    let t = s .before in
+    let a = t .args in
+    let p = t .pre .1 in
+    let b = bytes-known (now (a .buf)) (s .shared-slice-known .given) in
+    let hd = k .before .answer2 .given .0 .0 in
+    let o = opened-head (now (a .buf)) b (asksOf (a .parent)) (a .level) (a .at .0) hd (ap headMeant (sym (k .before .answer2 .given .1)) ∙ k .before .before .before .header .ensures) in
+    omega (arith, o .kind, e1 .if1 .left, e2 .if2 .left, u4 .if4 .left))
+    (λ c κs.
+    let q = c in
+    let u4 = q .before .before .before in
+    let u = u4 .before in
+    let rd = u .before in
+    let e3 = rd .before in
+    let e2 = e3 .before .before .before in
+    let e1 = e2 .before in
+    let k = e1 .before in
+    let s = k .before .before .before .before .before .before in
+    let t = s .before in
+    let a = t .args in
+    let p = t .pre .1 in
+    let b = bytes-known (now (a .buf)) (s .shared-slice-known .given) in
+    let hd = k .before .answer2 .given .0 .0 in
+    let o = opened-head (now (a .buf)) b (asksOf (a .parent)) (a .level) (a .at .0) hd (ap headMeant (sym (k .before .answer2 .given .1)) ∙ k .before .before .before .header .ensures) in
+    let three : 3 ≤ hd .kind = omega (arith, o .kind, e1 .if1 .left, e2 .if2 .left) in
+    let same : o .h .kind ≡ hd .kind = ap (λ (x : Head). x .kind) (o .heads .same) in
+    let pl : inside (o .h) ≡ geometries (asksOf (q .parent-of .result)) = q .parent-of .ensures (o .h) same (ap (λ (x : Head). x .dimension) (o .heads .same)) in
+    (omega (arith, o .onward, o .within, p .0, t .pre .0, e3 .if3 .left)
+    , (p .0, omega (arith, o .onward, p .1), subst (λ (x : Place). Room x (a .level + 1)) pl (room-inside (now (a .buf)) b (asksOf (a .parent)) (a .level) (a .at .0) (p .2) hd o three))))
+    (λ c κs.
+    let r = c .before .before .before in
+    let q = r .before in
+    let u4 = q .before .before .before in
+    let u = u4 .before in
+    let rd = u .before in
+    let e3 = rd .before in
+    let e2 = e3 .before .before .before in
+    let e1 = e2 .before in
+    let k = e1 .before in
+    let s = k .before .before .before .before .before .before in
+    let t = s .before in
+    let a = t .args in
+    let p = t .pre .1 in
+    let b = bytes-known (now (a .buf)) (s .shared-slice-known .given) in
+    let hd = k .before .answer2 .given .0 .0 in
+    let o = opened-head (now (a .buf)) b (asksOf (a .parent)) (a .level) (a .at .0) hd (ap headMeant (sym (k .before .answer2 .given .1)) ∙ k .before .before .before .header .ensures) in
+    let three : 3 ≤ hd .kind = omega (arith, o .kind, e1 .if1 .left, e2 .if2 .left) in
+    let same : o .h .kind ≡ hd .kind = ap (λ (x : Head). x .kind) (o .heads .same) in
+    let pl : inside (o .h) ≡ geometries (asksOf (q .parent-of .result)) = q .parent-of .ensures (o .h) same (ap (λ (x : Head). x .dimension) (o .heads .same)) in
+    closable (now (a .buf)) b (now (a .old)) (now (a .out)) (a .row .0) (a .level) (a .at .0) (rd .read-u32 .result) hd (o .h) (o .heads) three (e3 .if3 .left) (rd .read-u32 .ensures) (geometries (asksOf (q .parent-of .result))) pl (r .collection .result) (r .collection .last .1 .0) (r .collection .ensures) (p .0) (omega (arith, o .kind)) (omega (arith, p .2 .1)) (omega (arith, o .onward, o .within, p .0)))
+    (λ c.
+    let hdr = c .before .before .before in
+    let s = hdr .before .before .before in
+    let t = s .before in
+    let a = t .args in
+    let b = bytes-known (now (a .buf)) (s .shared-slice-known .given) in
+    refused-head (now (a .buf)) b (asksOf (a .parent)) (a .level) (a .at .0) (t .pre .1 .2) (now (a .old)) (now (a .out)) (a .row .0) _ _ (ap headMeant (sym (c .before .answer .given .1)) ∙ hdr .header .ensures))
+    (λ c. search needs)
+    (λ c.
+    let y = c .before .before in
+    let r = y .before .before .before .before in
+    let q = r .before in
+    let u4 = q .before .before .before in
+    let u = u4 .before in
+    let rd = u .before in
+    let e3 = rd .before in
+    let e2 = e3 .before .before .before in
+    let e1 = e2 .before in
+    let k = e1 .before in
+    let s = k .before .before .before .before .before .before in
+    let t = s .before in
+    let a = t .args in
+    let p = t .pre .1 in
+    let b = bytes-known (now (a .buf)) (s .shared-slice-known .given) in
+    let hd = k .before .answer2 .given .0 .0 in
+    let o = opened-head (now (a .buf)) b (asksOf (a .parent)) (a .level) (a .at .0) hd (ap headMeant (sym (k .before .answer2 .given .1)) ∙ k .before .before .before .header .ensures) in
+    let three : 3 ≤ hd .kind = omega (arith, o .kind, e1 .if1 .left, e2 .if2 .left) in
+    let same : o .h .kind ≡ hd .kind = ap (λ (x : Head). x .kind) (o .heads .same) in
+    let pl : inside (o .h) ≡ geometries (asksOf (q .parent-of .result)) = q .parent-of .ensures (o .h) same (ap (λ (x : Head). x .dimension) (o .heads .same)) in
+    y .close2 .ensures
+    ∙ close-whole (now (a .buf)) b (now (a .old)) (now (a .out)) (a .row .0) (a .level) (a .at .0) (rd .read-u32 .result) hd (o .h) (o .heads) three (e3 .if3 .left) (rd .read-u32 .ensures) (geometries (asksOf (q .parent-of .result))) pl (r .collection .result) (r .collection .last .1 .0) (r .collection .ensures)
+    ∙ opened-whole (now (a .buf)) b (asksOf (a .parent)) (a .level) (a .at .0) (p .2) (now (a .old)) (now (a .out)) (a .row .0) hd o))
+    λ t. collection-lts.spec (geometry-below t, geometry.Post, both-reads.Asked, both-reads.Learnt) (collection-at t) collection.Post Inv μ-loop
+    (λ c.
+    let s = c .before .before in
+    let a = s .before .args in
+    (search needs, search needs, search needs, search needs
+    , all-left (a .old .now) (a .level) (a .buf .now) (bytes-known (a .buf .now) (s .shared-slice-known .given)) (geometries (asksOf (a .parent))) (a .count) (a .row .0) (a .at .0) true (a .out .now)))
+    (λ c κs.
+    let l = c .before .before .loop in
+    let q = c .before .before .before .before .before .before .pre in
+    (omega (arith, q .0, l .inv .3), (q .1 .0, l .inv .2, q .1 .2)))
+    (λ c. search needs)
+    (λ c κs. search needs)
+    (λ c. search needs)
+    (λ c. search needs)
+    (λ c.
+    let y = c .before .before .before .before .before in
+    let t = y .before .before in
+    let l = t .before .loop in
+    let s = t .before .before .before .before in
+    let a = s .before .args in
+    turned-away (a .old .now) (a .level) (a .buf .now) (bytes-known (a .buf .now) (s .shared-slice-known .given)) (geometries (asksOf (a .parent))) (a .count) (l .i) (l .q) (l .p) (l .all) (l .out)
+    (t .loop-test .taken) _ _ (ap (λ (w : Walk). walked w (y .geometry .last .1 .0)) (sym (c .before .why .given .1)) ∙ y .geometry .ensures)
+    ∙ l .inv .4)
+    (λ c. search needs)
+    (λ c. search needs)
+    (λ c.
+    let g = c .before .before in
+    let y = g .before .before .before .before in
+    let t = y .before .before in
+    let l = t .before .loop in
+    let s = t .before .before .before .before in
+    let a = s .before .args in
+    let b = bytes-known (a .buf .now) (s .shared-slice-known .given) in
+    let o = y .geometry .last .1 .0 in
+    let st : State = (g .next .given .0 .0 .0, g .next .given .0 .1 .0 .0, g .next .given .0 .1 .1 .0, o) in
+    let read : answered st ≡ whole (a .old .now) (l .q) (a .level) (l .p) true (l .out) (forest (a .buf .now) 19 1 (geometries (asksOf (a .parent))) (a .level) (l .p)) =
+    ap (λ (w : Walk). walked w o) (sym (g .next .given .1)) ∙ y .geometry .ensures in
+    let f = onward (a .old .now) (a .level) (a .buf .now) b (geometries (asksOf (a .parent))) 1 (l .q) (l .p) (l .out) st read (l .inv .2) in
+    (search needs
+    , y .geometry .kept .1 .0 ∙ l .inv .1
+    , f .1
+    , omega (arith, f .0, l .inv .3)
+    , ap (λ (u : Bool). whole (a .old .now) (st .1) (a .level) (st .0) u o (forest (a .buf .now) 19 (a .count - (l .i + 1)) (geometries (asksOf (a .parent))) (a .level) (st .0))) (c .both .ensures)
+      ∙ sym (turn (a .old .now) (a .level) (a .buf .now) b (geometries (asksOf (a .parent))) (a .count) (l .i) (l .q) (l .p) (l .all) (l .out) (t .loop-test .taken) st read)
+      ∙ l .inv .4))
+    (λ c. search needs)
+    (λ c.
+    let l = c .before .loop in
+    let s = c .before .before .before .before in
+    let a = s .before .args in
+    none-left (a .old .now) (a .level) (a .buf .now) (bytes-known (a .buf .now) (s .shared-slice-known .given)) (geometries (asksOf (a .parent))) (a .count) (l .i) (l .q) (l .p) (l .all) (l .out)
+    (c .loop-test .left)
+    ∙ l .inv .4)
