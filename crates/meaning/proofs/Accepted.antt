@@ -36,7 +36,7 @@ read-there b t n g h =
     ∙ forest-there b t 19 outermost 0 0 (drop n b) (g .wellFormed) (nineteen-levels t g) (begins-split b t n h)
     ∙ ap (λ (m : ℕ). answered (t, m)) (zero-add (length (bytes t)) ∙ begins-length b t n h)
 
-reading-short : (b : List ℕ) → length b ≤ 1048575 → reading b ≡ forest b 19 1 outermost 0 0
+pub reading-short : (b : List ℕ) → length b ≤ 1048575 → reading b ≡ forest b 19 1 outermost 0 0
 unfolding reading
 reading-short b h = rw (le-leb (length b) 1048575 h)
 

@@ -95,12 +95,12 @@ module _ (b : List ℕ) (all : Bytes b) (old out : List ℕ) (h : Header) (row l
 
     closed-there : (st : State) → answered st ≡ below
         → let f = rowFrom (headOf h next) (offset at) l (offset (next + 4)) (offset (st .0)) n (st .1 - row) in
-          answered (st .0, st .1, st .2 && hasRow old row f, putRow (st .3) row f) ≡ all-of-it
+        answered (st .0, st .1, st .2 && hasRow old row f, putRow (st .3) row f) ≡ all-of-it
     closed-there st i = go (forest b 19 n (inside h) (suc l) (next + 4)) refl i ∙ sym (ap (whole old row l at true out) (body-kids b h l next n k four e))
       where
         go : (A : Answer (Forest × ℕ)) → forest b 19 n (inside h) (suc l) (next + 4) ≡ A → answered st ≡ whole old (row + 1) (suc l) (next + 4) true out A
             → let f = rowFrom (headOf h next) (offset at) l (offset (next + 4)) (offset (st .0)) n (st .1 - row) in
-              answered (st .0, st .1, st .2 && hasRow old row f, putRow (st .3) row f) ≡ whole old row l at true out (after A (λ kids. give (first h [] kids empty)))
+            answered (st .0, st .1, st .2 && hasRow old row f, putRow (st .3) row f) ≡ whole old row l at true out (after A (λ kids. give (first h [] kids empty)))
         go (refused x y) s j = let z : _≡_ {A = ℕ} 0 1 = cc in absurd (omega arith)
         go (answered x) s j =
             let kids = x .0 in
@@ -174,7 +174,8 @@ module _ (b : List ℕ) (all : Bytes b) (old out : List ℕ) (row l at n : ℕ) 
     where
       go : (w : Walk) → walked w ys ≡ whole old (row + 1) (suc l) (next + 4) true out (forest b 19 n (inside h) (suc l) (next + 4)) → Closable w (offset at) row l head n (offset (next + 4))
       go (Walk.Done z r same) j =
-          let f = below-fits b all old out h row l at next n k′ (g .behind) four e′ (z .0, r .0, same, ys) j short in
-          (omega (arith, f .0)
-          , row-fits (rowFrom head (offset at) l (offset (next + 4)) z n (r .0 - row)) head at l (next + 4) (z .0) n (r .0 - row) refl k₈ lv a (omega arith) (f .1) (f .2) (f .3))
+          let f = below-fits b all old out h row l at next n k′ (g .behind) four e′ (z .0, r .0, same, ys) j short in (
+            omega (arith, f .0),
+            row-fits (rowFrom head (offset at) l (offset (next + 4)) z n (r .0 - row)) head at l (next + 4) (z .0) n (r .0 - row) refl k₈ lv a (omega arith) (f .1) (f .2) (f .3),
+          )
       go (Walk.Refused x) j = tt

@@ -7,3 +7,4 @@ mod Nans
 mod Leaves
 mod Closings
 mod Geometries
+mod Tables

@@ -45,13 +45,13 @@ at-rows t r s f g lt =
     (ap (λ (l : List ℕ). set l (2 * r + 1) (wordB f)) (set-comm t (2 * s) (2 * r) (wordA g) (wordA f) (λ e. omega arith))
     ∙ set-comm (set t (2 * r) (wordA f)) (2 * s) (2 * r + 1) (wordA g) (wordB f) (λ e. omega arith))
 
-put-at : (t : List ℕ) (r : ℕ) (f : RowFields) → r < length t / 2 → putRow t r f ≡ at-row t r f
+pub put-at : (t : List ℕ) (r : ℕ) (f : RowFields) → r < length t / 2 → putRow t r f ≡ at-row t r f
 put-at t r f h = rw (lt-ltb r (length t / 2) h)
 
 put-not : (t : List ℕ) (r : ℕ) (f : RowFields) → length t / 2 ≤ r → putRow t r f ≡ t
 put-not t r f h = rw (le-ltb r (length t / 2) h)
 
-put-length : (t : List ℕ) (r : ℕ) (f : RowFields) → length (putRow t r f) ≡ length t
+pub put-length : (t : List ℕ) (r : ℕ) (f : RowFields) → length (putRow t r f) ≡ length t
 put-length t r f = go (ltb r (rowsOf t))
   where
     go : (c : Bool) → length (cond c (at-row t r f) t) ≡ length t

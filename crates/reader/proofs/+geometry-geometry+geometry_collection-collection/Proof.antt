@@ -60,7 +60,7 @@ abbrev Inv : collection-lts.InvT-loop
 Inv buf out₀ old level parent count i₀ p₀ q₀ all₀ out i p q all =
     (i ≤ count) × (length out ≡ length out₀) × (q ≤ p) × (p₀ ≤ p)
     × (whole old q level p all out (forest buf 19 (count - i) (geometries (asksOf parent)) level p)
-      ≡ whole old q₀ level p₀ true out₀ (forest buf 19 count (geometries (asksOf parent)) level p₀))
+    ≡ whole old q₀ level p₀ true out₀ (forest buf 19 count (geometries (asksOf parent)) level p₀))
 
 abbrev μ-loop : collection-lts.MeasureT-loop
 μ-loop buf out₀ old level parent count i₀ p₀ q₀ all₀ out i p q all = count - i
@@ -346,9 +346,10 @@ pub +geometry·geometry+geometry-collection·collection-spec : {M : Type 1} → 
     let o = opened-head (now (a .buf)) b (asksOf (a .parent)) (a .level) (a .at .0) hd (ap headMeant (sym (k .before .answer2 .given .1)) ∙ k .before .before .before .header .ensures) in
     let three : 3 ≤ hd .kind = omega (arith, o .kind, e1 .if1 .left, e2 .if2 .left) in
     let same : o .h .kind ≡ hd .kind = ap (λ (x : Head). x .kind) (o .heads .same) in
-    let pl : inside (o .h) ≡ geometries (asksOf (q .parent-of .result)) = q .parent-of .ensures (o .h) same (ap (λ (x : Head). x .dimension) (o .heads .same)) in
-    (omega (arith, o .onward, o .within, p .0, t .pre .0, e3 .if3 .left)
-    , (p .0, omega (arith, o .onward, p .1), subst (λ (x : Place). Room x (a .level + 1)) pl (room-inside (now (a .buf)) b (asksOf (a .parent)) (a .level) (a .at .0) (p .2) hd o three))))
+    let pl : inside (o .h) ≡ geometries (asksOf (q .parent-of .result)) = q .parent-of .ensures (o .h) same (ap (λ (x : Head). x .dimension) (o .heads .same)) in (
+      omega (arith, o .onward, o .within, p .0, t .pre .0, e3 .if3 .left),
+      (p .0, omega (arith, o .onward, p .1), subst (λ (x : Place). Room x (a .level + 1)) pl (room-inside (now (a .buf)) b (asksOf (a .parent)) (a .level) (a .at .0) (p .2) hd o three)),
+    ))
     (λ c κs.
     let r = c .before .before .before in
     let q = r .before in
@@ -405,9 +406,13 @@ pub +geometry·geometry+geometry-collection·collection-spec : {M : Type 1} → 
     λ t. collection-lts.spec (geometry-below t, geometry.Post, both-reads.Asked, both-reads.Learnt) (collection-at t) collection.Post Inv μ-loop
     (λ c.
     let s = c .before .before in
-    let a = s .before .args in
-    (search needs, search needs, search needs, search needs
-    , all-left (a .old .now) (a .level) (a .buf .now) (bytes-known (a .buf .now) (s .shared-slice-known .given)) (geometries (asksOf (a .parent))) (a .count) (a .row .0) (a .at .0) true (a .out .now)))
+    let a = s .before .args in (
+      search needs,
+      search needs,
+      search needs,
+      search needs,
+      all-left (a .old .now) (a .level) (a .buf .now) (bytes-known (a .buf .now) (s .shared-slice-known .given)) (geometries (asksOf (a .parent))) (a .count) (a .row .0) (a .at .0) true (a .out .now),
+    ))
     (λ c κs.
     let l = c .before .before .loop in
     let q = c .before .before .before .before .before .before .pre in
@@ -439,14 +444,15 @@ pub +geometry·geometry+geometry-collection·collection-spec : {M : Type 1} → 
     let st : State = (g .next .given .0 .0 .0, g .next .given .0 .1 .0 .0, g .next .given .0 .1 .1 .0, o) in
     let read : answered st ≡ whole (a .old .now) (l .q) (a .level) (l .p) true (l .out) (forest (a .buf .now) 19 1 (geometries (asksOf (a .parent))) (a .level) (l .p)) =
     ap (λ (w : Walk). walked w o) (sym (g .next .given .1)) ∙ y .geometry .ensures in
-    let f = onward (a .old .now) (a .level) (a .buf .now) b (geometries (asksOf (a .parent))) 1 (l .q) (l .p) (l .out) st read (l .inv .2) in
-    (search needs
-    , y .geometry .kept .1 .0 ∙ l .inv .1
-    , f .1
-    , omega (arith, f .0, l .inv .3)
-    , ap (λ (u : Bool). whole (a .old .now) (st .1) (a .level) (st .0) u o (forest (a .buf .now) 19 (a .count - (l .i + 1)) (geometries (asksOf (a .parent))) (a .level) (st .0))) (c .both .ensures)
-      ∙ sym (turn (a .old .now) (a .level) (a .buf .now) b (geometries (asksOf (a .parent))) (a .count) (l .i) (l .q) (l .p) (l .all) (l .out) (t .loop-test .taken) st read)
-      ∙ l .inv .4))
+    let f = onward (a .old .now) (a .level) (a .buf .now) b (geometries (asksOf (a .parent))) 1 (l .q) (l .p) (l .out) st read (l .inv .2) in (
+      search needs,
+      y .geometry .kept .1 .0 ∙ l .inv .1,
+      f .1,
+      omega (arith, f .0, l .inv .3),
+      ap (λ (u : Bool). whole (a .old .now) (st .1) (a .level) (st .0) u o (forest (a .buf .now) 19 (a .count - (l .i + 1)) (geometries (asksOf (a .parent))) (a .level) (st .0))) (c .both .ensures)
+          ∙ sym (turn (a .old .now) (a .level) (a .buf .now) b (geometries (asksOf (a .parent))) (a .count) (l .i) (l .q) (l .p) (l .all) (l .out) (t .loop-test .taken) st read)
+          ∙ l .inv .4,
+    ))
     (λ c. search needs)
     (λ c.
     let l = c .before .loop in

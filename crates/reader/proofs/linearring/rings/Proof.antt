@@ -31,9 +31,13 @@ rings-spec =
     μ-loop
     (λ c.
     let s = c .before .before in
-    let a = s .before .args in
-    (search needs, search needs, search needs, search needs
-    , all-left (a .old .now) (a .level) (a .buf .now) (bytes-known (a .buf .now) (s .shared-slice-known .given)) (rings (a .order) (a .dimension)) (a .count) (a .row .0) (a .at .0) true (a .out .now)))
+    let a = s .before .args in (
+      search needs,
+      search needs,
+      search needs,
+      search needs,
+      all-left (a .old .now) (a .level) (a .buf .now) (bytes-known (a .buf .now) (s .shared-slice-known .given)) (rings (a .order) (a .dimension)) (a .count) (a .row .0) (a .at .0) true (a .out .now),
+    ))
     (λ c κs. search needs)
     (λ c. search needs)
     (λ c κs. search needs)
@@ -62,14 +66,15 @@ rings-spec =
     let st : State = (g .next .given .0 .0 .0, g .next .given .0 .1 .0 .0, g .next .given .0 .1 .1 .0, o) in
     let read : answered st ≡ whole (a .old .now) (l .q) (a .level) (l .p) true (l .out) (forest (a .buf .now) 19 1 (rings (a .order) (a .dimension)) (a .level) (l .p)) =
     ap (λ (w : Walk). walked w o) (sym (g .next .given .1)) ∙ y .ring .ensures in
-    let f = onward (a .old .now) (a .level) (a .buf .now) b (rings (a .order) (a .dimension)) 1 (l .q) (l .p) (l .out) st read (l .inv .2) in
-    (search needs
-    , y .ring .kept .1 .0 ∙ l .inv .1
-    , f .1
-    , f .2 (l .inv .3)
-    , ap (λ (u : Bool). whole (a .old .now) (st .1) (a .level) (st .0) u o (forest (a .buf .now) 19 (a .count - (l .i + 1)) (rings (a .order) (a .dimension)) (a .level) (st .0))) (c .both .ensures)
-      ∙ sym (turn (a .old .now) (a .level) (a .buf .now) b (rings (a .order) (a .dimension)) (a .count) (l .i) (l .q) (l .p) (l .all) (l .out) (t .loop-test .taken) st read)
-      ∙ l .inv .4))
+    let f = onward (a .old .now) (a .level) (a .buf .now) b (rings (a .order) (a .dimension)) 1 (l .q) (l .p) (l .out) st read (l .inv .2) in (
+      search needs,
+      y .ring .kept .1 .0 ∙ l .inv .1,
+      f .1,
+      f .2 (l .inv .3),
+      ap (λ (u : Bool). whole (a .old .now) (st .1) (a .level) (st .0) u o (forest (a .buf .now) 19 (a .count - (l .i + 1)) (rings (a .order) (a .dimension)) (a .level) (st .0))) (c .both .ensures)
+          ∙ sym (turn (a .old .now) (a .level) (a .buf .now) b (rings (a .order) (a .dimension)) (a .count) (l .i) (l .q) (l .p) (l .all) (l .out) (t .loop-test .taken) st read)
+          ∙ l .inv .4,
+    ))
     (λ c. search needs)
     (λ c.
     let l = c .before .loop in

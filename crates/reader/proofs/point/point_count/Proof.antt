@@ -32,16 +32,17 @@ point-count-spec =
     let l = r .before .before in
     let a = l .before .before .args in
     sym (ap (λ (t : Bool). cond t 0 1) (sym (l .loop .inv .1) ∙ number-there (a .buf .now) (a .order) (a .n) (l .loop .i) (a .at) (r .before .loop-test .taken)
-      (ap isNaN (sym (r .read-u64 .ensures)) ∙ sym (c .before .is-nan .ensures) ∙ not-true _ (c .if1 .taken)))))
+    (ap isNaN (sym (r .read-u64 .ensures)) ∙ sym (c .before .is-nan .ensures) ∙ not-true _ (c .if1 .taken)))))
     (λ c. search needs)
     (λ c. search needs)
     (λ c.
     let r = c .before .before in
     let l = r .before .before in
-    let a = l .before .before .args in
-    (search needs
-    , sym (nan-there (a .buf .now) (a .order) (a .n) (l .loop .i) (a .at) (r .before .loop-test .taken)
-        (ap isNaN (sym (r .read-u64 .ensures)) ∙ sym (c .before .is-nan .ensures) ∙ not-false _ (c .if1 .left))) ∙ l .loop .inv .1))
+    let a = l .before .before .args in (
+      search needs,
+      sym (nan-there (a .buf .now) (a .order) (a .n) (l .loop .i) (a .at) (r .before .loop-test .taken)
+          (ap isNaN (sym (r .read-u64 .ensures)) ∙ sym (c .before .is-nan .ensures) ∙ not-false _ (c .if1 .left))) ∙ l .loop .inv .1,
+    ))
     (λ c.
     let l = c .before in
     let a = l .before .before .args in
