@@ -1,8 +1,8 @@
-// Lines of input, and the type code that a line spells.
+// The type code that a line spells.
+use text::line::Digit;
+use text::line::digit_of;
 ghost use mathlib.Core.Path.{_≡_};
-ghost use Prim.Native.Nat.{_+_, _≤_};
-ghost use lib.ListN.{length, drop};
-ghost use Rattle.codes.specs.Line.{Small, codeOf, digitOf, lineLength};
+ghost use Rattle.codes.specs.Line.{codeOf};
 
 // What a line spells, or the first thing that is wrong with it.
 pub enum Spelt {
@@ -12,27 +12,6 @@ pub enum Spelt {
     TooLong(usize),
     // which character, counted from 1, is the first that is no hex digit
     NotHex(usize),
-}
-
-pub enum Digit {
-    Value(u32),
-    NoDigit,
-}
-
-// Where the line that starts at `from` ends: at its line break, or where the input does.
-pub fn line_end(input: &[u8], from: usize) -> usize
-    requires { ⌜ from ≤ length (now input) ⌝ }
-    ensures { λ r. ⌜ r ≡ from + lineLength (drop from (now (input .entry))) ⌝ }
-    ensures { λ r. ⌜ (from ≤ r) × (r ≤ length (now (input .entry))) ⌝ }
-{
-    let mut i = from;
-    while i < input.len() {
-        if input[i] == b'\n' {
-            return i;
-        }
-        i += 1;
-    }
-    i
 }
 
 pub fn code_of(line: &[u8]) -> Spelt
@@ -58,16 +37,4 @@ pub fn code_of(line: &[u8]) -> Spelt
         i += 1;
     }
     Spelt::Code(code)
-}
-
-// The bound is there for a caller that computes with the value.
-fn digit_of(b: u8) -> Digit
-    ensures { λ r. ⌜ (r ≡ digitOf b) × Small r ⌝ }
-{
-    match b {
-        b'0'..=b'9' => Digit::Value((b - b'0') as u32),
-        b'A'..=b'F' => Digit::Value((b - b'A') as u32 + 10),
-        b'a'..=b'f' => Digit::Value((b - b'a') as u32 + 10),
-        _ => Digit::NoDigit,
-    }
 }

@@ -1,6 +1,6 @@
 // Reads type codes in hex, one to a line, from standard input, and writes for each what it says.
+mod describe;
 mod line;
-mod text;
 
 fn main() {
     let mut input = io::large_buffer();
@@ -19,7 +19,7 @@ fn answer_all(input: &[u8]) {
     let mut at = 0;
     let mut number = 1;
     while at < input.len() {
-        let end = line::line_end(input, at);
+        let end = text::line::until(input, at, b'\n');
         if !answer(&input[at..end], number) {
             return;
         }
@@ -30,6 +30,6 @@ fn answer_all(input: &[u8]) {
 
 fn answer(line: &[u8], number: usize) -> bool {
     let mut out = [0u8; 135];
-    let n = text::describe(line, number, &mut out);
+    let n = describe::describe(line, number, &mut out);
     io::write_all(libc::STDOUT_FILENO, &out[..n])
 }

@@ -5,8 +5,9 @@ use borrow.Author.Needs.{needs}
 use borrow.Author.Tests.{lt-ltb, eq-eqb, ne-eqb}
 use native.Mathlib.Omega.{arith}
 use lib.ListN.{length, drop}
-use Rattle.codes.specs.Line.{Small, codeFrom}
-use Rattle.codes.specs.declared.line.Digit.{Digit}
+use Rattle.text.specs.Line.{Small}
+use Rattle.text.specs.declared.line.Digit.{Digit}
+use Rattle.codes.specs.Line.{codeFrom}
 use Rattle.codes.proofs.Lines.{code-more, code-stops, code-ends, in-reach, digit-more, room}
 use Rattle.codes.proofs.line.code_of.Statement.{statement}
 use Rattle.codes.proofs.line.code_of.Tie as tie
