@@ -16,4 +16,5 @@ pub mod Steps
 pub mod Fits
 pub mod EmptyPoint
 pub mod OneAnswer
+pub mod Rules
 pub mod Samples

@@ -38,7 +38,7 @@ abbrev pub guard : Bool → ℕ → ℕ → Reader Unit
 guard true n p = give tt
 guard false n p = λ at. refused n p
 
--- "4: code not allowed; the code"
+-- 4: "code not allowed", at "the code"
 abbrev pub known : Option WkbType → ℕ → Reader WkbType
 known none p = λ at. refused 4 p
 known (some t) p = give t
@@ -57,7 +57,7 @@ abbrev pub coordinatesIn : Endianness → ℕ → ℕ → List ℕ → List Ordi
 coordinatesIn o s n bs = map (λ c. map (number o) (pieces 8 s c)) (pieces (8 * s) n bs)
 
 module _ (b : List ℕ) where
-  -- the w bytes from here on. "2: a field or coordinate run goes past the buffer; its first byte"
+  -- the w bytes from here on. 2: "a field or coordinate run goes past the buffer", at "its first byte"
   unfoldable pub span : ℕ → Reader (List ℕ)
   span w = λ at. cond (leb w (length b - at)) (answered (take w (drop at b), at + w)) (refused 2 at)
 
@@ -118,6 +118,6 @@ module _ (b : List ℕ) where
     rest ← forest (suc d) n p l
     give (first h cs kids rest)
 
--- "At most 1,048,575 bytes"; nineteen levels are enough (proofs/Levels.antt)
+-- 1: "buffer longer than 1,048,575", at 0: "Rule 1 comes first." Nineteen levels are enough (proofs/Levels.antt)
 unfoldable pub reading : List ℕ → Answer (Forest × ℕ)
 reading b = cond (leb (length b) 1048575) (forest b 19 1 outermost 0 0) (refused 1 0)

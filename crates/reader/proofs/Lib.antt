@@ -8,3 +8,4 @@ mod Leaves
 mod Closings
 mod Geometries
 mod Tables
+pub mod OneResult
