@@ -7,5 +7,6 @@ mod Nans
 mod Leaves
 mod Closings
 mod Geometries
-mod Tables
 pub mod OneResult
+pub mod Tables
+pub mod Compared

@@ -33,7 +33,7 @@ take-two t i h =
     take-suc t (suc i) 0 (omega arith) ∙ ap (λ (l : List ℕ). l ++ (getD t (suc i) 0 ∷ [])) (take-suc t i 0 (omega arith))
     ∙ append-assoc (take i t) (getD t i 0 ∷ []) (getD t (suc i) 0 ∷ [])
 
-length-words : (rs : List RowFields) → length (words rs) ≡ 2 * length rs
+pub length-words : (rs : List RowFields) → length (words rs) ≡ 2 * length rs
 unfolding words
 length-words [] = refl
 length-words (r ∷ rs) = let e = length-words rs in omega arith
