@@ -1,0 +1,2 @@
+// Questions on a buffer and a table.
+pub mod check;
