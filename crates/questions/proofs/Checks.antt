@@ -42,25 +42,24 @@ module _ (b t : List ℕ) (short : length b ≤ 1048575) (out : List ℕ) where
       go (answered x) e j = let z : _≡_ {A = ℕ} 0 1 = cc in absurd (omega arith)
 
   module _ (st : State) (i : answered st ≡ whole t 0 0 0 true out all-of-it) where
-    state-of : (x : Forest × ℕ) → answered st ≡ whole t 0 0 0 true out (answered x)
-        → st ≡ (x .1, 0 + rowsIn (x .0), hasRows t 0 (rows 0 0 (x .0)), putRows out 0 (rows 0 0 (x .0)))
-    state-of x j = cc
-
-    rows-of : (x : Forest × ℕ) → answered st ≡ whole t 0 0 0 true out (answered x) → st .1 ≡ rowsIn (x .0)
-    rows-of x j = ap (λ (y : State). y .1) (state-of x j) ∙ zero-add (rowsIn (x .0))
-
-    pub fewer-rows : length t / 2 < st .1 → false ≡ check b t
-    fewer-rows lt = go all-of-it refl i
+    -- what the walk went over, its rows, and whether the table has them
+    gone-over : (x : Forest × ℕ) × (all-of-it ≡ answered x) × (st .1 ≡ rowsIn (x .0)) × (st .2 ≡ hasRows t 0 (rows 0 0 (x .0)))
+    gone-over = go all-of-it refl i
       where
-        go : (A : Answer (Forest × ℕ)) → all-of-it ≡ A → answered st ≡ whole t 0 0 0 true out A → false ≡ check b t
-        go (refused x y) e j = let z : _≡_ {A = ℕ} 0 1 = cc in absurd (omega arith)
-        go (answered x) e j = too-few x t (omega (arith, rows-of x j)) ∙ by-walk (answered x) e
-
-    pub all-rows : st .1 ≤ length t / 2 → st .2 ≡ check b t
-    all-rows le = go all-of-it refl i
-      where
-        go : (A : Answer (Forest × ℕ)) → all-of-it ≡ A → answered st ≡ whole t 0 0 0 true out A → st .2 ≡ check b t
+        go : (A : Answer (Forest × ℕ)) → all-of-it ≡ A → answered st ≡ whole t 0 0 0 true out A
+            → (x : Forest × ℕ) × (all-of-it ≡ answered x) × (st .1 ≡ rowsIn (x .0)) × (st .2 ≡ hasRows t 0 (rows 0 0 (x .0)))
         go (refused x y) e j = let z : _≡_ {A = ℕ} 0 1 = cc in absurd (omega arith)
         go (answered x) e j =
-            let room : rowsIn (x .0) ≤ length t / 2 = omega (arith, rows-of x j) in
-            ap (λ (y : State). y .2) (state-of x j) ∙ compared t (x .0) room ∙ enough x t room ∙ by-walk (answered x) e
+            let s : st ≡ (x .1, 0 + rowsIn (x .0), hasRows t 0 (rows 0 0 (x .0)), putRows out 0 (rows 0 0 (x .0))) = cc in
+            (x, e, ap (λ (y : State). y .1) s ∙ zero-add (rowsIn (x .0)), ap (λ (y : State). y .2) s)
+
+    pub fewer-rows : length t / 2 < st .1 → false ≡ check b t
+    fewer-rows lt =
+        let (x, e, n, s) = gone-over in
+        too-few x t (omega arith) ∙ by-walk (answered x) e
+
+    pub all-rows : st .1 ≤ length t / 2 → st .2 ≡ check b t
+    all-rows le =
+        let (x, e, n, s) = gone-over in
+        let room : rowsIn (x .0) ≤ length t / 2 = omega arith in
+        s ∙ compared t (x .0) room ∙ enough x t room ∙ by-walk (answered x) e

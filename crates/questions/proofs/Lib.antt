@@ -1,1 +1,3 @@
-pub mod Checks
+mod Checks
+pub mod Checked
+pub mod Fetched
