@@ -1,9 +1,9 @@
 -- Checked: what the reader leaves in a table passes the check, whatever stands behind the rows, and a table that passes has those rows.
 -- What follows the geometry in the buffer does not matter. Assumes nothing.
-use Prim.Native.Nat.{ℕ, zero, suc, _+_, _*_, _/_, _≤_, _<_}
+use Prim.Native.Nat.{ℕ, _+_, _*_, _≤_}
 use native.Mathlib.Omega.{arith}
 use mathlib.Core.Path.{_≡_, refl, sym, ap, ap₂, _∙_}
-use mathlib.Core.Bool.{Bool, true, false, _&&_, cond}
+use mathlib.Core.Bool.{Bool, true, false, cond}
 use mathlib.Core.List.{List, [], _∷_, _++_}
 use lib.ListN.{length, take, drop, length-take}
 use lib.Seq.{take-at}
@@ -44,15 +44,20 @@ pub record Listed (b t : List ℕ) (f : Forest) (n : ℕ) : Type 0 where
   pub room : rowsIn f ≤ rowsOf t
   pub same : take (2 * rowsIn f) t ≡ wordsOf f
 
--- A table that passes the check lists what the buffer begins with,
+-- A table that passes the check lists what was read,
+pub listed-as : (b t : List ℕ) → check b t ≡ true → (f : Forest) (n : ℕ) → reading b ≡ answered (f, n) → Listed b t f n
+listed-as b t h f n e =
+    let ws = take (2 * rowsIn f) t in
+    let (l, s) = both (leb (rowsIn f) (rowsOf t)) (sameWords ws (wordsOf f)) (ap (λ (x : Answer (Forest × ℕ)). holds x t) (sym e) ∙ h) in
+    record { read = e; room = leb-true (rowsIn f) (rowsOf t) l; same = same-words ws (wordsOf f) s }
+
+-- and something was read;
 pub listed : (b t : List ℕ) → check b t ≡ true → (f : Forest) × (n : ℕ) × Listed b t f n
 listed b t h = go (reading b) refl h
   where
     go : (A : Answer (Forest × ℕ)) → reading b ≡ A → holds A t ≡ true → (f : Forest) × (n : ℕ) × Listed b t f n
     go (refused n k) e j = let z : _≡_ {A = ℕ} 0 1 = cc in absurd (omega arith)
-    go (answered x) e j =
-        let (l, s) = both (leb (rowsIn (x .0)) (rowsOf t)) (sameWords (take (2 * rowsIn (x .0)) t) (wordsOf (x .0))) j in
-        (x .0, x .1, record { read = e; room = leb-true (rowsIn (x .0)) (rowsOf t) l; same = same-words (take (2 * rowsIn (x .0)) t) (wordsOf (x .0)) s })
+    go (answered x) e j = (x .0, x .1, listed-as b t h (x .0) (x .1) e)
 
 -- and one that lists it passes.
 pub passes : (b t : List ℕ) (f : Forest) (n : ℕ) → Listed b t f n → check b t ≡ true
