@@ -5,7 +5,7 @@ ghost use Rattle.codes.specs.Line.{code_of};
 use text::line::{Digit, digit_of};
 
 // What a line spells, or the first thing that is wrong with it.
-#[derive(Drop)]
+#[derive(Clone, Copy)]
 pub enum Spelt {
     Code(u32),
     Empty,

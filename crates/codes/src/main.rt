@@ -1,4 +1,6 @@
 // Reads type codes in hex, one to a line, from standard input, and writes for each what it says.
+#![tactic(auto)]
+
 mod describe;
 mod line;
 

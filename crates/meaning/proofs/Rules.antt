@@ -6,7 +6,7 @@ use mathlib.Core.Bool.{Bool, true, false, ◌&&◌, cond}
 use mathlib.Core.List.{List, [], ◌∷◌, ◌++◌}
 use mathlib.Core.Option.{Option, none, some}
 use lib.Dec.{leb, eqb}
-use lib.Ieee.{is_nan, of_bits, binary64}
+use lib.Ieee.{is_nan as is_float_nan, of_bits, binary64}
 use lib.Ieee.Bits.{nan_bits_is, nan_bits_above}
 use borrow.Author.Tests.{eq-eqb, ne_eqb, le-leb, lt-leb}
 use Rattle.meaning.specs.declared.Dimension.TheVariants.{Xym}
@@ -39,7 +39,7 @@ unfolding inside
 inside_collection h e = rw e
 
 -- a NaN by its bits is a NaN of IEEE 754: an infinity is none, and the sign does not count
-pub nan_by_bits : (x : ℕ) → is_nan x ≡ is_nan (of_bits binary64 x)
+pub nan_by_bits : (x : ℕ) → is_nan x ≡ is_float_nan (of_bits binary64 x)
 nan_by_bits x = sym (nan_bits_above binary64 x) ∙ nan_bits_is binary64 x
 
 -- "The outermost geometry has level 0, a child or ring one more than its parent": the row says the level at which its geometry stands

@@ -1,13 +1,14 @@
 // The types that callers see. What each answer means in the paper's numbers is given in specs/Answer.antt.
+#![tactic(auto)]
 
 // The byte that opens a geometry: 0 big, 1 little.
-#[derive(Drop)]
+#[derive(Clone, Copy)]
 pub enum Endianness {
     BigEndian,
     LittleEndian,
 }
 
-#[derive(Drop)]
+#[derive(Clone, Copy)]
 pub enum Dimension {
     Xy,
     Xyz,
@@ -16,29 +17,29 @@ pub enum Dimension {
 }
 
 // What a type code says: kind 1 to 7, dimension, and whether an SRID follows.
-#[derive(Drop)]
+#[derive(Clone, Copy)]
 pub struct WkbType {
     pub kind: usize,
     pub dimension: Dimension,
     pub srid: bool,
 }
 
-#[derive(Drop)]
+#[derive(Clone, Copy)]
 pub enum TypeAnswer {
     Known(WkbType),
     NotAllowed,
 }
 
 // The number of a row of the table. Not an offset: each has its own type, so that neither is taken for the other.
-#[derive(Drop)]
+#[derive(Clone, Copy)]
 pub struct Row(pub usize);
 
 // The place of a byte in the buffer.
-#[derive(Drop)]
+#[derive(Clone, Copy)]
 pub struct Offset(pub usize);
 
 // The fields of one row of the table, out of its two words.
-#[derive(Drop)]
+#[derive(Clone, Copy)]
 pub struct RowFields {
     pub kind: usize,
     pub dimension: Dimension,
@@ -53,7 +54,7 @@ pub struct RowFields {
 }
 
 // Why a call was refused, and where.
-#[derive(Drop)]
+#[derive(Clone, Copy)]
 pub enum Refusal {
     // 1: the buffer is longer than 1,048,575 bytes
     TooLong,
@@ -79,20 +80,20 @@ pub enum Refusal {
     OutputTooShort(usize),
 }
 
-#[derive(Drop)]
+#[derive(Clone, Copy)]
 pub enum ReadAnswer {
     Accepted { length: usize, rows: usize },
     Refused(Refusal),
 }
 
-#[derive(Drop)]
+#[derive(Clone, Copy)]
 pub enum OrdinateAnswer {
     Bits(u64),
     Refused(Refusal),
 }
 
 // A coordinate's floats together; what the dimension does not carry is positive zero.
-#[derive(Drop)]
+#[derive(Clone, Copy)]
 pub struct Coordinate {
     pub dimension: Dimension,
     pub x: f64,
@@ -101,33 +102,33 @@ pub struct Coordinate {
     pub m: f64,
 }
 
-#[derive(Drop)]
+#[derive(Clone, Copy)]
 pub enum CoordinateAnswer {
     At(Coordinate),
     Refused(Refusal),
 }
 
 // How to read a coordinate part: its byte order and how many coordinates it holds.
-#[derive(Drop)]
+#[derive(Clone, Copy)]
 pub enum FormAnswer {
     Form { order: Endianness, count: usize },
     Refused(Refusal),
 }
 
-#[derive(Drop)]
+#[derive(Clone, Copy)]
 pub enum ChildAnswer {
     Child(Row),
     Refused(Refusal),
 }
 
-#[derive(Drop)]
+#[derive(Clone, Copy)]
 pub enum SridAnswer {
     NoSrid,
     Srid(u32),
     Refused(Refusal),
 }
 
-#[derive(Drop)]
+#[derive(Clone, Copy)]
 pub enum WriteAnswer {
     Written(usize),
     Refused(Refusal),

@@ -1,2 +1,4 @@
 // Questions on a buffer and a table.
+#![tactic(auto)]
+
 pub mod check;

@@ -16,7 +16,7 @@ use fields::number::read_u32;
 use meaning::{Dimension, Endianness, Offset, Refusal, Row, TypeAnswer, WkbType};
 
 // What of a header the walk needs.
-#[derive(Drop)]
+#[derive(Clone, Copy)]
 pub struct Head {
     pub kind: usize,
     pub dimension: Dimension,
@@ -26,7 +26,7 @@ pub struct Head {
     pub next: Offset,
 }
 
-#[derive(Drop)]
+#[derive(Clone, Copy)]
 pub enum HeadAnswer {
     Opens(Head),
     Refused(Refusal),

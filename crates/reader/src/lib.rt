@@ -1,4 +1,6 @@
 // Bytes to table.
+#![tactic(auto)]
+
 pub mod geometry;
 pub mod geometry_collection;
 pub mod linearring;

@@ -6,7 +6,7 @@ ghost use Rattle.reader.specs.Asks.{asks_of};
 use fields::code::dimension_number;
 use meaning::{Dimension, WkbType};
 
-#[derive(Drop)]
+#[derive(Clone, Copy)]
 pub enum Parent {
     NoParent,
     // kinds 4 to 6: the kind and dimension of each child

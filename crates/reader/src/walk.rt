@@ -9,7 +9,7 @@ use fields::words::{word_a, word_b};
 use meaning::{Offset, Refusal, Row, RowFields};
 
 // What a walk over some geometries comes to.
-#[derive(Drop)]
+#[derive(Clone, Copy)]
 pub enum Walk {
     // the offset behind them, the next row, and whether the table to compare with has all their rows
     Done { next: Offset, row: Row, same: bool },

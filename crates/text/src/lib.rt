@@ -1,4 +1,6 @@
 // Lines of text, taken apart and put together.
+#![tactic(auto)]
+
 pub mod line;
 pub mod put;
 pub mod refusal;

@@ -5,7 +5,7 @@ ghost use Rattle.meaning.specs.Answer.{refusal, refused};
 use crate::put::{put, put_number};
 use meaning::Refusal;
 
-#[derive(Drop)]
+#[derive(Clone, Copy)]
 pub struct Numbers(usize, usize);
 
 fn numbers_of(x: Refusal) -> Numbers

@@ -4,19 +4,19 @@ ghost use Rattle.text.specs.Spelt.{Within};
 
 use crate::line::{Digit, digit_of, until};
 
-#[derive(Drop)]
+#[derive(Clone, Copy)]
 pub enum Number {
     Value(usize),
     NoNumber,
 }
 
-#[derive(Drop)]
+#[derive(Clone, Copy)]
 pub enum Byte {
     Value(u8),
     NoByte,
 }
 
-#[derive(Drop)]
+#[derive(Clone, Copy)]
 pub enum Bytes {
     // as many, at the start of the output
     Spelt(usize),

@@ -1,4 +1,6 @@
 // Reads the records of its input, one to a line, and writes for each what reading it comes to: docs/VECTORS.md.
+#![tactic(auto)]
+
 mod describe;
 mod record;
 

@@ -8,7 +8,7 @@ use text::spelt::{Bytes, Number, bytes_of, number_of};
 // The most words that a table may have.
 pub const MOST_WORDS: usize = 600;
 
-#[derive(Drop)]
+#[derive(Clone, Copy)]
 pub enum Record {
     // a table of so many words, and a buffer of so many bytes
     Read { words: usize, length: usize },
