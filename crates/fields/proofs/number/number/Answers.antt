@@ -23,7 +23,7 @@ overflow_mul-p c =
     omega (
       arith,
       place_room
-      (read_next c.loop-n.invariant.digits (omega arith) (omega arith) c.place.ensures.0 c.wide.ensures.0 c.wide.ensures.1)
-      (omega arith)
-      (omega arith)
+          (read_next c.loop-n.invariant.digits (omega arith) (omega arith) c.place.ensures.0 c.wide.ensures.0 c.wide.ensures.1)
+          (omega arith)
+          (omega arith),
     )
