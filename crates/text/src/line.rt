@@ -12,7 +12,7 @@ pub enum Digit {
 pub fn until(s: &[u8], from: usize, stop: u8) -> usize
     requires { from ≤ length s.now }
     ensures value { result ≡ from + length_to stop (drop from s.now) }
-    ensures lower_bound { (from ≤ result) × (result ≤ length s.now) }
+    ensures in_bounds { (from ≤ result) × (result ≤ length s.now) }
 {
     let mut i = from;
     while i < s.len() {
