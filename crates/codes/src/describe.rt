@@ -48,7 +48,7 @@ fn put_code(out: &mut [u8], code: u32) -> usize
 
 fn put_type(out: &mut [u8], at: usize, t: WkbType) -> usize
     requires at_in_bounds { at + 54 ≤ length out.old }
-    requires le_kind { (1 ≤ t.kind) × (t.kind ≤ 7) }
+    requires kind_in_bounds { (1 ≤ t.kind) × (t.kind ≤ 7) }
     ensures { result ≤ at + 54 }
 {
     let at = put(out, at, b" ");
@@ -66,7 +66,7 @@ fn put_type(out: &mut [u8], at: usize, t: WkbType) -> usize
 
 fn put_name(out: &mut [u8], at: usize, kind: usize) -> usize
     requires at_in_bounds { at + 18 ≤ length out.old }
-    requires le_kind { (1 ≤ kind) × (kind ≤ 7) }
+    requires kind_in_bounds { (1 ≤ kind) × (kind ≤ 7) }
     ensures { result ≤ at + 18 }
 {
     match kind {

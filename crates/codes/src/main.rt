@@ -4,34 +4,32 @@
 mod describe;
 mod line;
 
-fn main() {
-    let mut input = io::large_buffer();
-    let n = io::read_full(libc::STDIN_FILENO, &mut input);
-    if n == 65536 {
-        io::write_all(
-            libc::STDOUT_FILENO,
-            b"input too long: expected at most 65535 bytes\n",
-        );
-        return;
+use std::io;
+use std::io::Read;
+
+fn main(rt: HostRuntime) -> io::Result<()> {
+    let mut input = Vec::new(rt.alloc());
+    rt.stdin().take(65536).read_to_end(&mut input)?;
+    if input.len() == 65536 {
+        return rt.write_all(b"input too long: expected at most 65535 bytes\n");
     }
-    answer_all(&input[..n]);
+    answer_all(&rt, &input)
 }
 
-fn answer_all(input: &[u8]) {
+fn answer_all(rt: &impl Print, input: &[u8]) -> io::Result<()> {
     let mut at = 0;
     let mut number = 1;
     while at < input.len() {
         let end = text::line::until(input, at, b'\n');
-        if !answer(&input[at..end], number) {
-            return;
-        }
+        answer(rt, &input[at..end], number)?;
         at = end + 1;
         number += 1;
     }
+    Ok(())
 }
 
-fn answer(line: &[u8], number: usize) -> bool {
+fn answer(rt: &impl Print, line: &[u8], number: usize) -> io::Result<()> {
     let mut out = [0u8; 135];
     let n = describe::describe(line, number, &mut out);
-    io::write_all(libc::STDOUT_FILENO, &out[..n])
+    rt.write_all(&out[..n])
 }
