@@ -4,32 +4,36 @@
 mod describe;
 mod line;
 
-use std::io;
-use std::io::Read;
+// The numbers that the system gives to a program's standard input and output.
+const STDIN: i32 = 0;
 
-fn main(rt: HostRuntime) -> io::Result<()> {
-    let mut input = Vec::new(rt.alloc());
-    rt.stdin().take(65536).read_to_end(&mut input)?;
-    if input.len() == 65536 {
-        return rt.write_all(b"input too long: expected at most 65535 bytes\n");
+const STDOUT: i32 = 1;
+
+fn main() {
+    let mut input = io::large_buffer();
+    let n = io::read_full(STDIN, &mut input);
+    if n == 65536 {
+        io::write_all(STDOUT, b"input too long: expected at most 65535 bytes\n");
+        return;
     }
-    answer_all(&rt, &input)
+    answer_all(&input[..n]);
 }
 
-fn answer_all(rt: &impl Print, input: &[u8]) -> io::Result<()> {
+fn answer_all(input: &[u8]) {
     let mut at = 0;
     let mut number = 1;
     while at < input.len() {
         let end = text::line::until(input, at, b'\n');
-        answer(rt, &input[at..end], number)?;
+        if !answer(&input[at..end], number) {
+            return;
+        }
         at = end + 1;
         number += 1;
     }
-    Ok(())
 }
 
-fn answer(rt: &impl Print, line: &[u8], number: usize) -> io::Result<()> {
+fn answer(line: &[u8], number: usize) -> bool {
     let mut out = [0u8; 135];
     let n = describe::describe(line, number, &mut out);
-    rt.write_all(&out[..n])
+    io::write_all(STDOUT, &out[..n])
 }
