@@ -1,21 +1,21 @@
 -- Accepted exactly; the only prefix; what follows does not matter. Assumes nothing.
-use Prim.Native.Nat.{ℕ, zero, ◌+◌, ◌≤◌, ◌<◌}
+use Prim.Native.Nat.{ℕ, ◌≤◌}
 use native.Mathlib.Nat.{zero-add}
 use native.Mathlib.Omega.{arith}
-use mathlib.Core.Path.{◌≡◌, refl, sym, ap, subst, ◌∙◌}
+use mathlib.Core.Path.{◌≡◌, refl, sym, ap, ◌∙◌}
 use mathlib.Core.Logic.{◌↔◌}
-use mathlib.Core.Bool.{Bool, true, false, cond}
-use mathlib.Core.List.{List, [], ◌∷◌, ◌++◌}
+use mathlib.Core.Bool.{Bool, true, false}
+use mathlib.Core.List.{List, ◌++◌}
 use lib.ListN.{length, take, drop, length-append, take-append-drop}
-use lib.Seq.{take_at, length-take-le, take-append_seam}
+use lib.Seq.{take_at, length-take-le}
 use lib.Dec.{leb}
 use borrow.Author.Tests.{le-leb, leb-true}
 use Rattle.meaning.specs.Number.{Bytes}
-use Rattle.meaning.specs.Grammar.{Forest, bytes, outermost, siblings, Geometry}
+use Rattle.meaning.specs.Grammar.{Forest, bytes, outermost, Geometry}
 use Rattle.meaning.specs.Answer.{Answer, refused, answered}
 use Rattle.meaning.specs.Reading.{forest, reading}
 use Rattle.meaning.specs.Table.{tabled, read_wkb}
-use Rattle.meaning.proofs.Exact.{depth, forest_there, forest_from}
+use Rattle.meaning.proofs.Exact.{forest_there, forest_from}
 use Rattle.meaning.proofs.Levels.{nineteen_levels}
 
 -- the geometry's bytes are the first n bytes of the buffer

@@ -1,16 +1,16 @@
 -- What the readers of counts and coordinate runs accept, exactly; and how a body's count tells its coordinates and children. Assumes nothing.
-use Prim.Native.Nat.{ℕ, zero, suc, ◌+◌, ◌*◌, ◌^◌, ◌≤◌, ◌<◌}
+use Prim.Native.Nat.{ℕ, ◌+◌, ◌*◌, ◌^◌, ◌≤◌, ◌<◌}
 use native.Mathlib.Omega.{arith}
 use mathlib.Core.Path.{◌≡◌, refl, sym, ap, ap₂, subst, ◌∙◌}
-use mathlib.Core.Bool.{Bool, true, false, ◌&&◌, cond}
-use mathlib.Core.List.{List, [], ◌∷◌, ◌++◌}
-use lib.ListN.{length, take, drop}
+use mathlib.Core.Bool.{Bool, true, false, cond}
+use mathlib.Core.List.{List, [], ◌++◌}
+use lib.ListN.{length, drop}
 use lib.Dec.{leb, eqb}
-use borrow.Author.Tests.{eqb-true, eqb-false, eq-eqb, ne_eqb, leb-true, leb-false, le-leb, lt-leb}
+use borrow.Author.Tests.{eqb-true, eqb-false, ne_eqb, leb-true, leb-false, le-leb}
 use Rattle.meaning.specs.Number.{Each, Bytes, bytes_of}
 use Rattle.meaning.specs.Code.{size}
-use Rattle.meaning.specs.Grammar.{Header, Ordinates, Forest, siblings, empty_point, shown, count, count_bytes, ordinate_bytes, OrdinatesOf, Body}
-use Rattle.meaning.specs.Answer.{Answer, refused, answered}
+use Rattle.meaning.specs.Grammar.{Header, Ordinates, Forest, siblings, empty_point, count, count_bytes, ordinate_bytes, OrdinatesOf, Body}
+use Rattle.meaning.specs.Answer.{answered}
 use Rattle.meaning.specs.Reading.{give, num, span, count_of, run, coordinates_in}
 use Rattle.meaning.proofs.Lists.{each_take, each_drop}
 use Rattle.meaning.proofs.Numbers.{length_bytes_of}

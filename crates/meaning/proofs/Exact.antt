@@ -1,17 +1,15 @@
 -- Accepted exactly: what `reading` accepts are the well-formed geometries whose bytes begin the buffer. Assumes nothing.
-use Prim.Native.Nat.{ℕ, zero, suc, ◌+◌, ◌*◌, ◌-◌, max, ◌≤◌, ◌<◌}
+use Prim.Native.Nat.{ℕ, zero, suc, ◌+◌, max, ◌≤◌}
 use native.Mathlib.Omega.{arith}
-use mathlib.Core.Path.{◌≡◌, refl, sym, ap, ap₂, subst, ◌∙◌}
-use mathlib.Core.Bool.{Bool, true, false, cond}
-use mathlib.Core.List.{List, [], ◌∷◌, ◌++◌, append_assoc, append-nil}
-use lib.ListN.{length, take, drop, length-append, take-append-drop}
-use lib.Seq.{take-append_seam}
+use mathlib.Core.Path.{◌≡◌, refl, sym, ap, subst, ◌∙◌}
+use mathlib.Core.Bool.{cond}
+use mathlib.Core.List.{List, ◌++◌, append_assoc}
+use lib.ListN.{length, drop, length-append}
 use lib.Dec.{leb}
-use borrow.Author.Tests.{le-leb, leb-true, leb-false}
 use Rattle.meaning.specs.Number.{Bytes}
-use Rattle.meaning.specs.Grammar.{Header, Ordinates, Forest, empty, first, siblings, bytes, front, count, count_bytes, header_bytes, srid_bytes, ordinate_bytes, Place, outermost, inside, WellFormed, Geometry}
-use Rattle.meaning.specs.Answer.{Answer, refused, answered}
-use Rattle.meaning.specs.Reading.{header, count_of, run, forest, reading}
+use Rattle.meaning.specs.Grammar.{Header, Ordinates, Forest, empty, first, siblings, bytes, count_bytes, ordinate_bytes, Place, inside, WellFormed}
+use Rattle.meaning.specs.Answer.{answered}
+use Rattle.meaning.specs.Reading.{header, count_of, run, forest}
 use Rattle.meaning.proofs.Fields.{back, From, from_append, behind}
 use Rattle.meaning.proofs.Headers.{headed, header_there, header_from}
 use Rattle.meaning.proofs.Bodies.{count_there, count_from, run_there, run_from, wire, bytes_wire, body_from, body_there, wire_point, wire_below}

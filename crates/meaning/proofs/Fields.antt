@@ -1,23 +1,22 @@
 -- What each field's reader accepts, exactly: the bytes that its value is written in. Assumes nothing.
-use Prim.Native.Nat.{ℕ, zero, suc, ◌+◌, ◌*◌, ◌-◌, ◌^◌, ◌≤◌, ◌<◌}
+use Prim.Native.Nat.{ℕ, zero, suc, ◌+◌, ◌-◌, ◌^◌, ◌<◌}
 use native.Mathlib.Omega.{arith}
 use mathlib.Core.Path.{◌≡◌, refl, sym, ap, ap₂, subst, ◌∙◌}
-use mathlib.Core.Bool.{Bool, true, false, not}
+use mathlib.Core.Bool.{Bool, true, false}
 use mathlib.Core.Option.{Option, none, some}
-use mathlib.Core.List.{List, [], ◌∷◌, ◌++◌, append_assoc, append-nil, flat_map, map}
+use mathlib.Core.List.{List, [], ◌∷◌, ◌++◌, append_assoc}
 use lib.ListN.{length, take, drop, take-append-drop, length-append, length-drop}
-use lib.Seq.{take_at, drop_at, drop-drop, length-take-le, drop-append_seam}
+use lib.Seq.{take_at, drop-drop, length-take-le, drop-append_seam}
 use lib.Dec.{leb}
-use borrow.Author.Tests.{le-leb, leb-true, not-true}
+use borrow.Author.Tests.{le-leb, leb-true}
 use Rattle.meaning.specs.declared.Endianness.{Endianness}
 use Rattle.meaning.specs.declared.Endianness.TheVariants.{BigEndian, LittleEndian}
 use Rattle.meaning.specs.declared.WkbType.{WkbType}
-use Rattle.meaning.specs.Number.{Each, Bytes, order_byte, number, bytes_of, value, digits}
-use Rattle.meaning.specs.Code.{type_of, size}
-use Rattle.meaning.specs.Grammar.{srid_bytes, is_some, Fits32, Ordinates, OrdinatesOf, ordinate_bytes}
+use Rattle.meaning.specs.Number.{Bytes, order_byte, number, bytes_of, value, digits}
+use Rattle.meaning.specs.Grammar.{srid_bytes, is_some, Fits32}
 use Rattle.meaning.specs.Answer.{Answer, refused, answered}
-use Rattle.meaning.specs.Reading.{Reader, after, give, ◌>>◌, guard, known, order_of, pieces, coordinates_in, span, num, order, srid}
-use Rattle.meaning.proofs.Lists.{each_take, each_drop, each_also, length_pieces, length_written, pieces_written, written_pieces, each_piece}
+use Rattle.meaning.specs.Reading.{Reader, after, give, ◌>>◌, guard, known, order_of, span, num, order, srid}
+use Rattle.meaning.proofs.Lists.{each_take, each_drop}
 use Rattle.meaning.proofs.Numbers.{length_bytes_of, number_bytes_of, bytes_of_number, number_below}
 
 -- to go back from an answer to what came before it

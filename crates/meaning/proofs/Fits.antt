@@ -1,28 +1,25 @@
 -- Fits the words: every field of every row of an accepted buffer is below its width, so packing loses nothing. Assumes nothing.
-use Prim.Native.Nat.{ℕ, zero, suc, ◌+◌, ◌*◌, ◌^◌, max, ◌≤◌, ◌<◌}
-use native.Mathlib.Nat.{mul-le-mul_right}
+use Prim.Native.Nat.{ℕ, suc, ◌+◌, ◌*◌, ◌≤◌, ◌<◌}
 use native.Mathlib.Omega.{arith}
-use mathlib.Core.Path.{◌≡◌, refl, sym, ap, subst, ◌∙◌}
+use mathlib.Core.Path.{◌≡◌, ap}
 use mathlib.Core.Bool.{Bool, true, false, cond}
-use mathlib.Core.List.{List, [], ◌∷◌, ◌++◌}
+use mathlib.Core.List.{List, ◌++◌}
 use lib.ListN.{length, length-append}
 use lib.Dec.{leb}
-use borrow.Author.Tests.{leb-true, leb-false}
 use Rattle.meaning.specs.declared.Endianness.{Endianness}
 use Rattle.meaning.specs.declared.Endianness.TheVariants.{BigEndian, LittleEndian}
 use Rattle.meaning.specs.declared.Dimension.{Dimension}
 use Rattle.meaning.specs.declared.Dimension.TheVariants.{Xy, Xyz, Xym, Xyzm}
-use Rattle.meaning.specs.declared.RowFields.{RowFields}
 use Rattle.meaning.specs.Number.{Each, Bytes, order_byte}
 use Rattle.meaning.specs.Code.{size, dimension_number}
 use Rattle.meaning.specs.Grammar.{Header, Ordinates, Forest, empty, first, siblings, bytes, front, count, ordinate_bytes, is_some, Place, rings, geometries, outermost, inside, said, HeaderAt, Body, WellFormed}
-use Rattle.meaning.specs.Answer.{Answer, answered}
+use Rattle.meaning.specs.Answer.{answered}
 use Rattle.meaning.specs.Reading.{reading}
-use Rattle.meaning.specs.Table.{bit, rows_in, row_of, rows, RowFits}
+use Rattle.meaning.specs.Table.{bit, row_of, rows, RowFits}
 use Rattle.meaning.proofs.Lists.{each_append}
 use Rattle.meaning.proofs.Codes.{kind_range}
 use Rattle.meaning.proofs.Coordinates.{length_ordinate_bytes}
-use Rattle.meaning.proofs.Bodies.{wire, count_least}
+use Rattle.meaning.proofs.Bodies.{count_least}
 use Rattle.meaning.proofs.Exact.{depth}
 use Rattle.meaning.proofs.Levels.{nineteen_levels}
 use Rattle.meaning.proofs.Accepted.{accepted_exactly, accepted_short, begins_length}

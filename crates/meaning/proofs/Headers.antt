@@ -1,20 +1,19 @@
 -- What the header's reader accepts, exactly. Assumes nothing.
-use Prim.Native.Nat.{ℕ, zero, suc, ◌+◌, ◌*◌, ◌-◌, ◌^◌, ◌≤◌, ◌<◌}
+use Prim.Native.Nat.{ℕ, suc, ◌+◌, ◌^◌, ◌≤◌, ◌<◌}
 use native.Mathlib.Omega.{arith}
-use mathlib.Core.Path.{◌≡◌, refl, sym, ap, ap₂, subst, ◌∙◌}
+use mathlib.Core.Path.{◌≡◌, refl, sym, ap, subst, ◌∙◌}
 use mathlib.Core.Bool.{Bool, true, false, not, cond}
-use mathlib.Core.Option.{Option, none, some}
+use mathlib.Core.Option.{Option, some}
 use mathlib.Core.List.{List, [], ◌∷◌, ◌++◌, append_assoc}
 use lib.ListN.{length, drop, length-append}
-use lib.Dec.{eqb}
 use borrow.Author.Tests.{not-true, ne_eqb}
 use Rattle.meaning.specs.declared.Endianness.{Endianness}
 use Rattle.meaning.specs.declared.WkbType.{WkbType}
 use Rattle.meaning.specs.Number.{Bytes, order_byte, bytes_of}
 use Rattle.meaning.specs.Code.{type_of}
 use Rattle.meaning.specs.Grammar.{Header, Asks, Place, rings, geometries, ring_header, header_bytes, srid_bytes, GeometryHeader, HeaderAt, said, is_some, fits, srid_fits, too_deep, Fits32}
-use Rattle.meaning.specs.Answer.{Answer, refused, answered}
-use Rattle.meaning.specs.Reading.{Reader, header, known, guard, num, order, srid, give, ◌>>=◌, ◌>>◌}
+use Rattle.meaning.specs.Answer.{Answer, answered}
+use Rattle.meaning.specs.Reading.{header, known, guard, num, order, srid}
 use Rattle.meaning.proofs.Numbers.{length_bytes_of}
 use Rattle.meaning.proofs.Codes.{kind_range}
 use Rattle.meaning.proofs.Fields.{back, guard_from, known_from, From, from_append, behind, num_there, num_from, order_there, order_from, srid_there, srid_from}

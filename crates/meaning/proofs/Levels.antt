@@ -1,14 +1,14 @@
 -- Nineteen levels: no well-formed geometry has more, and a reading that may go deeper gives the same. Assumes nothing.
-use Prim.Native.Nat.{ℕ, zero, suc, ◌+◌, ◌-◌, max, ◌≤◌, ◌<◌}
+use Prim.Native.Nat.{ℕ, zero, suc, ◌+◌, ◌≤◌, ◌<◌}
 use native.Mathlib.Omega.{arith}
-use mathlib.Core.Path.{◌≡◌, refl, sym, ap, subst, ◌∙◌}
+use mathlib.Core.Path.{◌≡◌, refl, ap, ◌∙◌}
 use mathlib.Core.Bool.{Bool, true, false, ◌&&◌, cond}
 use mathlib.Core.Option.{Option, none, some}
 use mathlib.Core.List.{List}
 use lib.Dec.{leb, eqb}
-use borrow.Author.Tests.{eqb-true, eqb-false, eq-eqb, ne_eqb, leb-true, leb-false, le-leb, lt-leb}
+use borrow.Author.Tests.{eqb-true, eqb-false, eq-eqb, leb-true, leb-false, le-leb}
 use Rattle.meaning.specs.Number.{Bytes}
-use Rattle.meaning.specs.Grammar.{Header, Forest, empty, first, siblings, Asks, Place, rings, geometries, outermost, inside, asked, asked_dimension, too_deep, said, GeometryHeader, HeaderAt, WellFormed, Geometry}
+use Rattle.meaning.specs.Grammar.{Header, Forest, empty, first, siblings, Place, rings, geometries, outermost, inside, asked, asked_dimension, too_deep, said, HeaderAt, WellFormed, Geometry}
 use Rattle.meaning.specs.Answer.{Answer, refused, answered}
 use Rattle.meaning.specs.Reading.{Reader, after, header, count_of, run, forest}
 use Rattle.meaning.proofs.Codes.{both, kind_range}

@@ -1,9 +1,9 @@
 -- Each element of a list, and pieces of equal width. Assumes nothing.
-use Prim.Native.Nat.{ℕ, zero, suc, ◌+◌, ◌*◌, ◌≤◌, ◌<◌}
-use native.Mathlib.Nat.{mul-zero, mul-suc}
+use Prim.Native.Nat.{ℕ, zero, suc, ◌*◌, ◌<◌}
+use native.Mathlib.Nat.{mul-zero}
 use native.Mathlib.Omega.{arith}
 use mathlib.Core.Path.{◌≡◌, refl, sym, ap, ap₂, ◌∙◌}
-use mathlib.Core.List.{List, [], ◌∷◌, ◌++◌, map, flat_map, reverse, reverse_aux, append_assoc}
+use mathlib.Core.List.{List, [], ◌∷◌, ◌++◌, map, flat_map, reverse, reverse_aux}
 use lib.ListN.{length, take, drop, get_or, take-append-drop, length-append, length-drop}
 use lib.Seq.{take_at, drop_at, length-take-le}
 use Rattle.meaning.specs.Number.{Each, Bytes}

@@ -1,13 +1,13 @@
 -- Numbers of any width in either order: what is written is read, and what is read is written. Assumes nothing.
-use Prim.Native.Nat.{ℕ, zero, suc, ◌+◌, ◌*◌, ◌/◌, ◌%◌, ◌^◌, ◌≤◌, ◌<◌}
-use native.Mathlib.Nat.{pow-zero, pow-suc}
+use Prim.Native.Nat.{ℕ, zero, suc, ◌+◌, ◌*◌, ◌/◌, ◌%◌, ◌^◌, ◌<◌}
+use native.Mathlib.Nat.{pow-suc}
 use native.Mathlib.Omega.{arith}
 use mathlib.Core.Path.{◌≡◌, refl, sym, ap, ap₂, ◌∙◌}
 use mathlib.Core.List.{List, [], ◌∷◌, reverse, reverse-reverse}
 use lib.ListN.{length, length-reverse}
 use Rattle.meaning.specs.declared.Endianness.{Endianness}
 use Rattle.meaning.specs.declared.Endianness.TheVariants.{BigEndian, LittleEndian}
-use Rattle.meaning.specs.Number.{Bytes, value, digits, in_order, number, bytes_of}
+use Rattle.meaning.specs.Number.{Bytes, value, digits, number, bytes_of}
 use Rattle.meaning.proofs.Lists.{each_reverse}
 
 length_digits : (w n : ℕ) → length (digits w n) ≡ w

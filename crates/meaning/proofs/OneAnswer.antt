@@ -1,12 +1,9 @@
 -- One answer: what an answer means tells the answer, so that any two results that a contract allows are equal. Assumes nothing.
 use Prim.Native.Nat.{ℕ, ◌-◌}
 use mathlib.Core.Path.{◌≡◌, refl, sym, ap, ◌∙◌}
-use mathlib.Core.List.{List, [], ◌∷◌}
-use mathlib.Core.Option.{Option, none, some}
+use mathlib.Core.List.{[], ◌∷◌}
+use mathlib.Core.Option.{none, some}
 use lib.ListN.{get_or}
-use Rattle.meaning.specs.declared.Endianness.{Endianness}
-use Rattle.meaning.specs.declared.Coordinate.{Coordinate}
-use Rattle.meaning.specs.declared.WkbType.{WkbType}
 use Rattle.meaning.specs.declared.Refusal.{Refusal}
 use Rattle.meaning.specs.declared.Refusal.TheVariants.{TooLong, PastEnd, ByteOrder, TypeCode, WrongChild, ChildSrid, TooDeep, TooFewRows, Unsound, NotThere, OutputTooShort}
 use Rattle.meaning.specs.declared.TypeAnswer.{TypeAnswer}
@@ -17,7 +14,7 @@ use Rattle.meaning.specs.declared.FormAnswer.{FormAnswer}
 use Rattle.meaning.specs.declared.ChildAnswer.{ChildAnswer}
 use Rattle.meaning.specs.declared.SridAnswer.{SridAnswer}
 use Rattle.meaning.specs.declared.WriteAnswer.{WriteAnswer}
-use Rattle.meaning.specs.Answer.{Answer, refused, answered, numbered, refusal, type_meant, read_meant, ordinate_meant, coordinate_meant, form_meant, child_meant, srid_meant, write_meant}
+use Rattle.meaning.specs.Answer.{Answer, refused, answered, numbered, type_meant, read_meant, ordinate_meant, coordinate_meant, form_meant, child_meant, srid_meant, write_meant}
 
 -- the refusal of a number and place
 which : ℕ → ℕ → Refusal

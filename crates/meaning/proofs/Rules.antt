@@ -1,18 +1,17 @@
 -- Rules of document 01 that the samples do not touch, each as a law that a wrong definition breaks. Assumes nothing.
-use Prim.Native.Nat.{ℕ, zero, suc, ◌+◌, ◌*◌, ◌-◌, ◌≤◌, ◌<◌}
+use Prim.Native.Nat.{ℕ, ◌+◌, ◌*◌, ◌-◌, ◌≤◌, ◌<◌}
 use native.Mathlib.Omega.{arith}
-use mathlib.Core.Path.{◌≡◌, refl, sym, ap, ◌∙◌}
-use mathlib.Core.Bool.{Bool, true, false, ◌&&◌, cond}
+use mathlib.Core.Path.{◌≡◌, refl, sym, ◌∙◌}
+use mathlib.Core.Bool.{Bool, true, false, cond}
 use mathlib.Core.List.{List, [], ◌∷◌, ◌++◌}
-use mathlib.Core.Option.{Option, none, some}
-use lib.Dec.{leb, eqb}
+use mathlib.Core.Option.{none, some}
 use lib.Ieee.{is_nan as is_float_nan, of_bits, binary64}
 use lib.Ieee.Bits.{nan_bits_is, nan_bits_above}
-use borrow.Author.Tests.{eq-eqb, ne_eqb, le-leb, lt-leb}
+use borrow.Author.Tests.{ne_eqb, le-leb, lt-leb}
 use Rattle.meaning.specs.declared.Dimension.TheVariants.{Xym}
 use Rattle.meaning.specs.Code.{axes, dimension_of}
-use Rattle.meaning.specs.Grammar.{Header, Ordinates, Forest, is_nan, Asks, Place, rings, geometries, inside}
-use Rattle.meaning.specs.Answer.{Answer, refused}
+use Rattle.meaning.specs.Grammar.{Header, Ordinates, Forest, is_nan, geometries, inside}
+use Rattle.meaning.specs.Answer.{refused}
 use Rattle.meaning.specs.Table.{rows_in, row_of, rows_of, filled}
 use Rattle.meaning.specs.Questions.{position}
 

@@ -1,10 +1,10 @@
 -- Siblings one after the other: their bytes, rows and readings, one geometry at a time. Assumes nothing.
-use Prim.Native.Nat.{ℕ, zero, suc, ◌+◌, ◌≤◌}
+use Prim.Native.Nat.{ℕ, suc, ◌+◌}
 use native.Mathlib.Nat.{add-zero}
 use native.Mathlib.Omega.{arith}
 use mathlib.Core.Path.{◌≡◌, refl, sym, ap, ap₂, ◌∙◌}
 use mathlib.Core.Bool.{cond}
-use mathlib.Core.List.{List, [], ◌∷◌, ◌++◌, append_assoc, append-nil}
+use mathlib.Core.List.{List, ◌∷◌, ◌++◌, append_assoc}
 use lib.ListN.{length, length-append}
 use lib.Dec.{leb}
 use Rattle.meaning.specs.declared.RowFields.{RowFields}

@@ -1,16 +1,16 @@
 -- How many bytes the parts of a geometry have, and how many rows fit in bytes. Assumes nothing.
-use Prim.Native.Nat.{ℕ, zero, suc, ◌+◌, ◌*◌, ◌≤◌, ◌<◌}
+use Prim.Native.Nat.{ℕ, suc, ◌+◌, ◌*◌, ◌≤◌}
 use native.Mathlib.Omega.{arith}
-use mathlib.Core.Path.{◌≡◌, refl, sym, ap, ap₂, subst, ◌∙◌}
+use mathlib.Core.Path.{◌≡◌, refl, ap, ap₂, ◌∙◌}
 use mathlib.Core.Bool.{Bool, true, false, cond}
 use mathlib.Core.Option.{Option, none, some}
-use mathlib.Core.List.{List, [], ◌∷◌, ◌++◌}
+use mathlib.Core.List.{[], ◌∷◌, ◌++◌}
 use lib.ListN.{length, length-append}
-use lib.Dec.{leb, eqb}
+use lib.Dec.{eqb}
 use borrow.Author.Tests.{eqb-true}
 use Rattle.meaning.specs.declared.Endianness.{Endianness}
 use Rattle.meaning.specs.Number.{order_byte, bytes_of}
-use Rattle.meaning.specs.Grammar.{Header, Ordinates, Forest, empty, first, siblings, header_bytes, srid_bytes, count_bytes, ordinate_bytes, front, bytes, count, is_some}
+use Rattle.meaning.specs.Grammar.{Header, Forest, empty, first, siblings, header_bytes, srid_bytes, count_bytes, ordinate_bytes, front, bytes, count, is_some}
 use Rattle.meaning.specs.Table.{rows_in}
 use Rattle.meaning.proofs.Numbers.{length_bytes_of}
 

@@ -1,8 +1,8 @@
 -- Every byte once: header, SRID, count and ordinate bytes of all rows lie end to end, from the first byte to the prefix's length. Assumes nothing.
-use Prim.Native.Nat.{ℕ, zero, suc, ◌+◌, ◌*◌, ◌≤◌, ◌<◌}
+use Prim.Native.Nat.{ℕ, suc, ◌+◌, ◌*◌, ◌≤◌, ◌<◌}
 use native.Mathlib.Nat.{mul-zero, zero-add}
 use native.Mathlib.Omega.{arith}
-use mathlib.Core.Path.{◌≡◌, refl, sym, ap, ap₂, subst, ◌∙◌}
+use mathlib.Core.Path.{◌≡◌, refl, sym, ap, subst, ◌∙◌}
 use mathlib.Core.Bool.{Bool, true, false, ◌&&◌, cond}
 use mathlib.Core.List.{List, [], ◌∷◌, ◌++◌, flat_map, append_assoc}
 use lib.ListN.{length, length-append}
@@ -11,13 +11,12 @@ use borrow.Author.Tests.{le-leb, lt-ltb, ltb-true, ltb-false, eqb-true, eqb-fals
 use Rattle.meaning.specs.declared.RowFields.{RowFields}
 use Rattle.meaning.specs.Number.{Bytes}
 use Rattle.meaning.specs.Code.{size}
-use Rattle.meaning.specs.Grammar.{Header, Ordinates, Forest, empty, first, bytes, front, count, ordinate_bytes, is_some, Place, outermost, inside, Body, WellFormed, Geometry}
-use Rattle.meaning.specs.Answer.{Answer, answered}
+use Rattle.meaning.specs.Grammar.{Header, Ordinates, Forest, empty, first, bytes, front, count, ordinate_bytes, Place, outermost, inside, Body, WellFormed}
+use Rattle.meaning.specs.Answer.{answered}
 use Rattle.meaning.specs.Reading.{reading}
 use Rattle.meaning.specs.Table.{Span, spans, ordinate_size, row_of, rows}
-use Rattle.meaning.proofs.Lists.{none_left}
 use Rattle.meaning.proofs.Coordinates.{length_ordinate_bytes}
-use Rattle.meaning.proofs.Bodies.{wire, count_wire}
+use Rattle.meaning.proofs.Bodies.{count_wire}
 use Rattle.meaning.proofs.Accepted.{accepted_exactly, accepted_short, begins_length}
 use Rattle.meaning.proofs.Sizes.{front_size, no_siblings}
 

@@ -1,18 +1,17 @@
 -- Each step of a reading by what stands in the buffer: the laws for code that reads. Assumes nothing.
-use Prim.Native.Nat.{ℕ, suc, ◌+◌, ◌*◌, ◌-◌, ◌≤◌, ◌<◌}
+use Prim.Native.Nat.{ℕ, ◌+◌, ◌*◌, ◌-◌, ◌≤◌, ◌<◌}
 use native.Mathlib.Omega.{arith}
-use mathlib.Core.Path.{◌≡◌, refl, sym, ap, ◌∙◌}
-use mathlib.Core.List.{List, [], ◌∷◌}
+use mathlib.Core.Path.{◌≡◌}
+use mathlib.Core.List.{List}
 use lib.ListN.{length, take, drop, get_or}
 use lib.Seq.{drop-cons}
-use lib.Dec.{leb}
 use borrow.Author.Tests.{le-leb, lt-leb}
 use Rattle.meaning.specs.declared.Endianness.{Endianness}
 use Rattle.meaning.specs.declared.Endianness.TheVariants.{LittleEndian}
-use Rattle.meaning.specs.Number.{value, number, number_at}
+use Rattle.meaning.specs.Number.{value, number_at}
 use Rattle.meaning.specs.Code.{size}
 use Rattle.meaning.specs.Grammar.{Header}
-use Rattle.meaning.specs.Answer.{Answer, refused, answered}
+use Rattle.meaning.specs.Answer.{refused, answered}
 use Rattle.meaning.specs.Reading.{order_of, span, num, order, run, coordinates_in}
 
 module _ (b : List ℕ) (at : ℕ) where

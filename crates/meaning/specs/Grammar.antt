@@ -1,5 +1,5 @@
 -- Geometries, their bytes, and when they are well formed: the grammar, with no offsets and no refusals in it.
-use Rattle.std.specs.Prelude.{ℕ, zero, suc, ◌+◌, ◌*◌, ◌-◌, ◌^◌, ◌%◌, ◌≤◌, ◌<◌, ◌≡◌, Bool, true, false, ◌&&◌, ◌||◌, not, cond, length, leb, ltb, eqb}
+use Rattle.std.specs.Prelude.{ℕ, suc, ◌-◌, ◌^◌, ◌%◌, ◌≤◌, ◌<◌, ◌≡◌, Bool, true, false, ◌&&◌, ◌||◌, not, cond, length, leb, ltb, eqb}
 use mathlib.Core.List.{List, [], ◌∷◌, ◌++◌, flat_map}
 use Rattle.std.proofs.Math.Option.{Option, none, some}
 use Rattle.meaning.specs.declared.Endianness.{Endianness}

@@ -4,7 +4,7 @@ use Rattle.std.proofs.Math.Option.{Option, none, some}
 use Rattle.meaning.specs.declared.Endianness.{Endianness}
 use Rattle.meaning.specs.declared.Endianness.TheVariants.{BigEndian, LittleEndian}
 use Rattle.meaning.specs.declared.WkbType.{WkbType}
-use Rattle.meaning.specs.Number.{value, number}
+use Rattle.meaning.specs.Number.{number}
 use Rattle.meaning.specs.Code.{size, type_of}
 use Rattle.meaning.specs.Grammar.{Header, Ordinates, Forest, empty, first, Place, rings, geometries, outermost, inside, ring_header, fits, srid_fits, too_deep, holds_coordinates}
 use Rattle.meaning.specs.Answer.{Answer, refused, answered}

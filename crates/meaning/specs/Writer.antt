@@ -1,5 +1,5 @@
 -- The ISO form of a geometry, what the writer answers and leaves in the output, and 'same geometry'.
-use Rattle.std.specs.Prelude.{ℕ, ◌≡◌, List, [], ◌∷◌, ◌++◌, Bool, true, false, cond, length, drop, replicate, leb, eqb}
+use Rattle.std.specs.Prelude.{ℕ, ◌≡◌, List, [], ◌∷◌, ◌++◌, cond, length, drop, replicate, leb, eqb}
 use Rattle.std.proofs.Math.Option.{none}
 use Rattle.meaning.specs.declared.Endianness.{Endianness}
 use Rattle.meaning.specs.Code.{size, iso_code}

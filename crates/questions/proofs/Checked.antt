@@ -1,6 +1,6 @@
 -- Checked: what the reader leaves in a table passes the check, whatever stands behind the rows, and a table that passes has those rows.
 -- What follows the geometry in the buffer does not matter. Assumes nothing.
-use Prim.Native.Nat.{ℕ, ◌+◌, ◌*◌, ◌≤◌}
+use Prim.Native.Nat.{ℕ, ◌*◌, ◌≤◌}
 use native.Mathlib.Omega.{arith}
 use mathlib.Core.Path.{◌≡◌, refl, sym, ap, ap₂, ◌∙◌}
 use mathlib.Core.Bool.{Bool, true, false, cond}

@@ -1,8 +1,8 @@
 -- Never refused: on a checked pair each fitting question about a listed row answers, and the answer is the tree's own. Assumes nothing.
-use Prim.Native.Nat.{ℕ, zero, suc, ◌+◌, ◌*◌, ◌≤◌, ◌<◌, min}
+use Prim.Native.Nat.{ℕ, zero, suc, ◌+◌, ◌*◌, ◌≤◌, ◌<◌}
 use native.Mathlib.Nat.{mul-le-mul_left, mul-zero}
 use native.Mathlib.Omega.{arith}
-use mathlib.Core.Path.{◌≡◌, refl, sym, ap, ap₂, subst, ◌∙◌}
+use mathlib.Core.Path.{◌≡◌, refl, sym, ap, ap₂, ◌∙◌}
 use mathlib.Core.Bool.{Bool, true, false, ◌&&◌, cond}
 use mathlib.Core.Option.{Option, none, some, map}
 use mathlib.Core.List.{List, [], ◌∷◌, ◌++◌, flat_map}
@@ -10,18 +10,17 @@ use lib.ListN.{length, take, drop, get_or, get_elem?, length-append, length-drop
 use lib.Seq.{take_at}
 use lib.Dec.{leb, ltb, eqb}
 use lib.Ieee.{Float, of_bits, binary64}
-use borrow.Author.Tests.{le-leb, lt-ltb, leb-true, ltb-true}
-use Rattle.meaning.specs.declared.Endianness.{Endianness}
+use borrow.Author.Tests.{le-leb, lt-ltb}
 use Rattle.meaning.specs.declared.Dimension.{Dimension}
 use Rattle.meaning.specs.declared.Dimension.TheVariants.{Xy, Xyz, Xym, Xyzm}
 use Rattle.meaning.specs.declared.Coordinate.{Coordinate}
 use Rattle.meaning.specs.declared.RowFields.{RowFields}
 use Rattle.meaning.specs.Number.{Bytes, number_at}
 use Rattle.meaning.specs.Code.{axes, size}
-use Rattle.meaning.specs.Grammar.{Header, Ordinates, Forest, empty, first, Node, nodes, holds_coordinates, empty_point, shown, count, front, ordinate_bytes, bytes, outermost, Body, Geometry}
+use Rattle.meaning.specs.Grammar.{Header, Ordinates, Forest, Node, nodes, holds_coordinates, empty_point, shown, count, front, ordinate_bytes, bytes, outermost}
 use Rattle.meaning.specs.Answer.{Answer, refused, answered}
-use Rattle.meaning.specs.Table.{rows_in, row_of, rows, rows_of, fetch}
-use Rattle.meaning.specs.Questions.{guard, ◌>>=◌, ◌>>◌, sound, position, on_axis, ordinate, float_of, coordinate, coords_slice, coords_form}
+use Rattle.meaning.specs.Table.{row_of, rows, rows_of, fetch}
+use Rattle.meaning.specs.Questions.{guard, ◌>>=◌, ◌>>◌, position, on_axis, ordinate, float_of, coordinate, coords_slice, coords_form}
 use Rattle.meaning.proofs.Fields.{behind}
 use Rattle.meaning.proofs.Coordinates.{ordinate_at, length_ordinate_bytes}
 use Rattle.meaning.proofs.Accepted.{accepted_exactly, accepted_short, begins_split}

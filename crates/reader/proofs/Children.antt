@@ -1,18 +1,17 @@
 -- What a parent asks of its children. Assumes nothing.
 use Prim.Native.Nat.{ℕ, ◌-◌, ◌≤◌, ◌<◌}
 use native.Mathlib.Omega.{arith}
-use mathlib.Core.Path.{◌≡◌, refl, sym, ap, ap₂, ◌∙◌}
-use mathlib.Core.Bool.{Bool, true, false, ◌&&◌, not}
-use mathlib.Core.Option.{none, some}
+use mathlib.Core.Path.{◌≡◌}
+use mathlib.Core.Bool.{false}
 use lib.Dec.{eqb, leb}
 use borrow.Author.Tests.{eq-eqb, ne_eqb, le-leb, lt-leb}
 use Rattle.meaning.specs.declared.Endianness.{Endianness}
 use Rattle.meaning.specs.declared.Dimension.{Dimension}
 use Rattle.meaning.specs.declared.WkbType.{WkbType}
 use Rattle.meaning.specs.Code.{dimension_number}
-use Rattle.meaning.specs.Grammar.{Header, inside, rings, geometries, fits, srid_fits, too_deep}
+use Rattle.meaning.specs.Grammar.{Header, inside, rings, geometries, fits, too_deep}
 use Rattle.reader.specs.declared.util.Parent.{Parent}
-use Rattle.reader.specs.declared.util.Parent.TheVariants.{NoParent, Multi, Collection}
+use Rattle.reader.specs.declared.util.Parent.TheVariants.{Multi, Collection}
 use Rattle.reader.specs.Asks.{asks_of}
 
 module _ (p : Parent) (t : WkbType) (k : ℕ) (d : Dimension) (e : p ≡ Multi k d) where

@@ -1,23 +1,21 @@
 -- A parent's row on top of those of its children. Assumes nothing.
-use Prim.Native.Nat.{ℕ, zero, suc, ◌+◌, ◌*◌, ◌-◌, ◌≤◌, ◌<◌}
+use Prim.Native.Nat.{ℕ, suc, ◌+◌, ◌*◌, ◌-◌, ◌≤◌, ◌<◌}
 use native.Mathlib.Nat.{mul-zero, add-zero}
 use native.Mathlib.Numerals.{add-one}
 use native.Mathlib.Omega.{arith}
 use mathlib.Core.Path.{◌≡◌, refl, sym, ap, ap₂, subst, ◌∙◌}
-use mathlib.Core.Bool.{Bool, true, false, ◌&&◌, cond}
-use mathlib.Core.List.{List, [], ◌∷◌, ◌++◌, append-nil, flat_map}
+use mathlib.Core.Bool.{Bool, true, ◌&&◌}
+use mathlib.Core.List.{List, [], ◌∷◌, append-nil, flat_map}
 use lib.ListN.{length, drop, length-append, length-drop}
-use lib.Dec.{leb, eqb}
 use borrow.Author.Tests.{ne_eqb, lt-leb}
 use Rattle.meaning.specs.declared.Endianness.{Endianness}
 use Rattle.meaning.specs.declared.RowFields.{RowFields}
-use Rattle.meaning.specs.declared.Offset.{Offset}
 use Rattle.meaning.specs.Number.{Bytes, number_at}
 use Rattle.meaning.specs.Code.{size}
-use Rattle.meaning.specs.Grammar.{Header, Forest, empty, first, Place, inside, front, count, bytes, ordinate_bytes, siblings}
+use Rattle.meaning.specs.Grammar.{Header, Forest, empty, first, Place, inside, front, count, bytes}
 use Rattle.meaning.specs.Answer.{Answer, refused, answered, numbered}
 use Rattle.meaning.specs.Reading.{pieces, after, give, run, forest}
-use Rattle.meaning.specs.Table.{offset, row_of, rows, rows_in, RowFits}
+use Rattle.meaning.specs.Table.{offset, row_of, rows, rows_in}
 use Rattle.meaning.proofs.Headers.{headed}
 use Rattle.meaning.proofs.Exact.{forest_from}
 use Rattle.meaning.proofs.Siblings.{body_of}

@@ -1,16 +1,15 @@
 -- From a header to the geometry that it opens. Assumes nothing.
-use Prim.Native.Nat.{ℕ, zero, suc, ◌+◌, ◌-◌, ◌≤◌, ◌<◌}
+use Prim.Native.Nat.{ℕ, suc, ◌+◌, ◌≤◌}
 use native.Mathlib.Numerals.{add-one}
 use native.Mathlib.Omega.{arith}
 use mathlib.Core.Path.{◌≡◌, refl, sym, ap, subst, ◌∙◌}
-use mathlib.Core.Bool.{Bool, true, false, ◌&&◌}
+use mathlib.Core.Bool.{true}
 use mathlib.Core.Option.{Option, none, some}
 use mathlib.Core.List.{List}
 use lib.ListN.{length, drop, length-append, length-drop}
-use lib.Dec.{leb, eqb}
 use borrow.Author.Tests.{eqb-true, eq-eqb, ne_eqb}
 use Rattle.meaning.specs.Number.{Bytes}
-use Rattle.meaning.specs.Grammar.{Header, Forest, Asks, Place, rings, geometries, inside, asked, asked_dimension, header_bytes, srid_bytes, said, HeaderAt, GeometryHeader}
+use Rattle.meaning.specs.Grammar.{Header, Asks, Place, rings, geometries, inside, asked, asked_dimension, header_bytes, srid_bytes, said, GeometryHeader}
 use Rattle.meaning.specs.Answer.{Answer, refused, answered}
 use Rattle.meaning.specs.Reading.{after, header, forest}
 use Rattle.meaning.proofs.Codes.{both, kind_range}
@@ -20,7 +19,7 @@ use Rattle.meaning.proofs.Sizes.{header_size}
 use Rattle.meaning.proofs.Siblings.{body_of, one_read_deep}
 use Rattle.reader.specs.declared.geometry.Head.{Head}
 use Rattle.reader.specs.Asks.{head_of, Heads, viewed}
-use Rattle.reader.specs.Walk.{Room, whole, State}
+use Rattle.reader.specs.Walk.{Room, whole}
 
 -- what is known where a header opened
 pub record Opening (b : List ℕ) (a : Asks) (l at : ℕ) (head : Head) : Type 0 where

@@ -1,13 +1,13 @@
 -- A LineString, ring or Point that was read: its one row. Assumes nothing.
-use Prim.Native.Nat.{ℕ, zero, suc, ◌+◌, ◌*◌, ◌-◌, ◌^◌, ◌≤◌, ◌<◌}
+use Prim.Native.Nat.{ℕ, suc, ◌+◌, ◌*◌, ◌-◌, ◌^◌, ◌≤◌, ◌<◌}
 use native.Mathlib.Nat.{mul-one}
 use native.Mathlib.Omega.{arith}
 use mathlib.Core.Path.{◌≡◌, refl, sym, ap, ap₂, subst, ◌∙◌}
 use mathlib.Core.Bool.{Bool, true, false, ◌&&◌, cond}
-use mathlib.Core.List.{List, [], ◌∷◌, ◌++◌, map, append_assoc}
+use mathlib.Core.List.{List, [], append_assoc}
 use lib.ListN.{length, take, drop, length-append, length-drop}
 use lib.Seq.{length-take-le, take-take}
-use lib.Dec.{leb, eqb}
+use lib.Dec.{eqb}
 use borrow.Author.Tests.{eq-eqb, ne_eqb, le-leb}
 use Rattle.meaning.specs.declared.Endianness.{Endianness}
 use Rattle.meaning.specs.declared.Dimension.{Dimension}
@@ -15,7 +15,7 @@ use Rattle.meaning.specs.declared.Dimension.TheVariants.{Xy, Xyz, Xym, Xyzm}
 use Rattle.meaning.specs.declared.RowFields.{RowFields}
 use Rattle.meaning.specs.Number.{Bytes, number_at}
 use Rattle.meaning.specs.Code.{size}
-use Rattle.meaning.specs.Grammar.{Header, Ordinates, Forest, empty, first, every, front, header_bytes, srid_bytes, count_bytes, ordinate_bytes, bytes, count, inside, rings, ring_header}
+use Rattle.meaning.specs.Grammar.{Header, Ordinates, Forest, empty, first, every, front, header_bytes, srid_bytes, count_bytes, ordinate_bytes, bytes, count, rings, ring_header}
 use Rattle.meaning.specs.Answer.{Answer, refused, answered}
 use Rattle.meaning.specs.Reading.{pieces, coordinates_in, header, forest}
 use Rattle.meaning.specs.Table.{offset, row_of, rows, rows_in, RowFits}

@@ -1,24 +1,22 @@
 -- From the walk to what the reader answers and leaves in the table. Assumes nothing.
-use Prim.Native.Nat.{ℕ, zero, suc, ◌+◌, ◌*◌, ◌/◌, ◌≤◌, ◌<◌}
-use native.Mathlib.Nat.{mul-suc, add-zero, zero-add}
+use Prim.Native.Nat.{ℕ, suc, ◌+◌, ◌*◌, ◌/◌, ◌≤◌, ◌<◌}
+use native.Mathlib.Nat.{add-zero, zero-add}
 use native.Mathlib.Omega.{arith}
-use mathlib.Core.Path.{◌≡◌, refl, sym, ap, ap₂, subst, ◌∙◌}
-use mathlib.Core.Bool.{Bool, true, false, ◌&&◌}
+use mathlib.Core.Path.{◌≡◌, refl, sym, ap, ap₂, ◌∙◌}
+use mathlib.Core.Bool.{true}
 use mathlib.Core.List.{List, [], ◌∷◌, ◌++◌, append_assoc}
 use lib.ListN.{length, take, drop, get_or, set, length-append, take-append-drop}
 use lib.Seq.{take-suc, set_at, length-take-le}
-use lib.Dec.{leb}
 use borrow.Author.Tests.{le-leb, lt-leb}
 use Rattle.meaning.specs.declared.RowFields.{RowFields}
-use Rattle.meaning.specs.Number.{Bytes}
 use Rattle.meaning.specs.Grammar.{Forest, outermost}
-use Rattle.meaning.specs.Answer.{Answer, refused, answered, numbered}
+use Rattle.meaning.specs.Answer.{Answer, refused, answered}
 use Rattle.meaning.specs.Reading.{forest, reading}
 use Rattle.meaning.specs.Table.{rows_in, rows, word_a, word_b, words, rows_of, tabled, read_wkb}
 use Rattle.meaning.proofs.Accepted.{reading_short}
 use Rattle.meaning.proofs.Siblings.{length_rows}
 use Rattle.reader.specs.declared.walk.Walk.{Walk}
-use Rattle.reader.specs.Walk.{State, put_row, put_rows, has_rows, whole, walked}
+use Rattle.reader.specs.Walk.{State, put_rows, has_rows, whole, walked}
 use Rattle.reader.proofs.Rows.{put_at, put_length}
 
 -- two words behind each other

@@ -1,6 +1,6 @@
 -- What the code's values for a parent's demands and for a header mean.
-use Rattle.std.specs.Prelude.{ℕ, ◌+◌, ◌≡◌, List, length, Bool, true, false, not}
-use Rattle.std.proofs.Math.Option.{Option, none, some}
+use Rattle.std.specs.Prelude.{ℕ, ◌+◌, ◌≡◌, List, length, true, false, not}
+use Rattle.std.proofs.Math.Option.{none, some}
 use Rattle.meaning.specs.declared.Endianness.{Endianness}
 use Rattle.meaning.specs.declared.WkbType.{WkbType}
 use Rattle.meaning.specs.Grammar.{Header, Asks, is_some, fits, srid_fits, too_deep}

@@ -1,5 +1,5 @@
 -- The dispatch over kinds and the walk over children meet their contracts. Assumes nothing.
-use Rattle.std.proofs.Common.{◌≡◌, ◌+◌, ◌-◌, ◌≤◌, length, Bool, true, sym, ap, subst, ◌∙◌, arith}
+use Rattle.std.proofs.Common.{◌≡◌, ◌+◌, ◌-◌, ◌≤◌, Bool, true, sym, ap, subst, ◌∙◌, arith}
 use Rattle.meaning.specs.Grammar.{Place, inside, rings, geometries}
 use Rattle.meaning.specs.Answer.{answered}
 use Rattle.meaning.specs.Reading.{forest}
