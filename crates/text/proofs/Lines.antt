@@ -1,8 +1,25 @@
 -- Laws of the characters of a line. Assumes nothing.
-use Rattle.std.proofs.Common.{◌≡◌, ℕ, ◌+◌, ◌<◌, ◌≤◌, List, length, get_or, drop, drop-cons, add-one, arith}
-use Rattle.std.proofs.Math.ListN.{drop_of_length-le}
-use borrow.Author.Tests.{eq-eqb, ne_eqb}
-use Rattle.text.specs.Line.{length_to}
+use mathlib.Core.Path.{◌≡◌}
+use mathlib.Core.Bool.{true, false, and-false}
+use mathlib.Core.List.{List}
+use Prim.Native.Nat.{ℕ, ◌+◌, ◌<◌, ◌≤◌}
+use native.Mathlib.Numerals.{add-one}
+use native.Mathlib.Omega.{arith}
+use lib.ListN.{length, get_or, drop, drop_of_length-le}
+use lib.Seq.{drop-cons}
+use borrow.Author.Tests.{le-leb, lt-leb, eq-eqb, ne_eqb}
+use Rattle.text.specs.Line.{within, length_to}
+
+-- a character inside a range, below it, above it
+module _ (low high b : ℕ) where
+  pub inside : low ≤ b → b ≤ high → within low high b ≡ true
+  inside p q = simp (le-leb _ _ p, le-leb _ _ q)
+
+  pub below : b < low → within low high b ≡ false
+  below p = simp (lt-leb _ _ p)
+
+  pub above : high < b → within low high b ≡ false
+  above p = simp (lt-leb _ _ p, and-false)
 
 -- how far it is to the stop, from one of the characters on
 module _ (s : List ℕ) (stop i : ℕ) where

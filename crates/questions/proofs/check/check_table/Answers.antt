@@ -1,5 +1,5 @@
 -- Too long; or the walk that compares decides, and the table must have as many rows. Assumes nothing.
-use Rattle.std.proofs.Common.{sym, ap, ◌∙◌}
+use Rattle.std.proofs.Common.{sym, ap, ◌∙◌, arith}
 use Rattle.reader.specs.declared.walk.Walk.{Walk}
 use Rattle.reader.specs.Walk.{State, walked}
 use Rattle.questions.proofs.Checks.{too_long, no_geometry, fewer_rows, all_rows}
@@ -14,7 +14,7 @@ returns-then-table-row c =
     let d = c.in-Done in
     let y = c.geometry.new.out in
     let st : State = (d.next.0, d.row.0, d.same, y) in
-    fewer_rows a.buf.now a.table.now c.if-buf-gt-LONGEST.false _ st (ap (λ (w : Walk). walked w y) (sym d.is) ∙ c.geometry.ensures) c.if-table-row.true
+    fewer_rows a.buf.now a.table.now c.if-buf-gt-LONGEST.false _ st (ap (λ (w : Walk). walked w y) (sym d.is) ∙ c.geometry.ensures) (omega (arith, c.if-table-row.true))
 
 pub returns-in-Refused : goal.returns-in-Refused
 returns-in-Refused c =
@@ -28,4 +28,4 @@ returns-else-table-row c =
     let d = c.in-Done in
     let y = c.geometry.new.out in
     let st : State = (d.next.0, d.row.0, d.same, y) in
-    all_rows a.buf.now a.table.now c.if-buf-gt-LONGEST.false _ st (ap (λ (w : Walk). walked w y) (sym d.is) ∙ c.geometry.ensures) c.if-table-row.false
+    all_rows a.buf.now a.table.now c.if-buf-gt-LONGEST.false _ st (ap (λ (w : Walk). walked w y) (sym d.is) ∙ c.geometry.ensures) (omega (arith, c.if-table-row.false))
