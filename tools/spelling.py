@@ -1,7 +1,7 @@
 #!/usr/bin/env python3
 """Gives the repository's own definitions and lemmas the spelling of today's Rattle: words in snake case, joined by underscores.
 
-usage: python3 tools/spelling.py [ROOT]     once, after /opt/rattle/port/port.py, in a repository that has the old names
+usage: python3 tools/spelling.py [ROOT]     once, after the kit's port.py, in a repository that has the old names
 
 It turns the names that files of specs/ and proofs/ declare, wherever they stand in those files, in the ghost items and clauses of src/,
 and in must-fail edits. Functions, types and variants of src/, strings, inputs and outputs keep their names, and so do the labels that the
