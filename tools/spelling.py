@@ -74,7 +74,6 @@ def renamed(root):
         odd = "-" in n or (n[0].islower() and re.search("[a-z0-9][A-Z]", n))
         if odd and not MADE.match(n):
             turned[n] = (snake(n), field)
-    # the edits still have the names of before port.py
     news = {}
     for n, (to, _) in turned.items():
         if to in names and n not in CHOSEN:
@@ -109,7 +108,7 @@ def turn_source(text, names):
 
 
 def turn_edit(text, names):
-    """An edit of a definition, or of a clause, also in the form that port.py leaves: projections tight."""
+    """An edit of a definition. It still has the names and the spaced projections of before port.py, which turns no edits."""
     at = re.search(r"^file: (.*)$", text, re.M)
     if not at.group(1).startswith("specs/"):
         return text

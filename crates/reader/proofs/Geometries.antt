@@ -6,7 +6,9 @@ use mathlib.Core.Path.{◌≡◌, refl, sym, ap, subst, ◌∙◌}
 use mathlib.Core.Bool.{true}
 use mathlib.Core.Option.{Option, none, some}
 use mathlib.Core.List.{List}
-use lib.ListN.{length, drop, length-append, length-drop}
+use lib.ListN.{length, drop, get_or, length-append, length-drop}
+use mir.Val.{Fits}
+use mir.Syntax.{w8}
 use borrow.Author.Tests.{eqb-true, eq-eqb, ne_eqb}
 use Rattle.meaning.specs.Number.{Bytes}
 use Rattle.meaning.specs.Grammar.{Header, Asks, Place, rings, geometries, inside, asked, asked_dimension, header_bytes, srid_bytes, said, GeometryHeader}
@@ -18,8 +20,11 @@ use Rattle.meaning.proofs.Levels.{Enough, EnoughFor, enough_inside, enough_more}
 use Rattle.meaning.proofs.Sizes.{header_size}
 use Rattle.meaning.proofs.Siblings.{body_of, one_read_deep}
 use Rattle.reader.specs.declared.geometry.Head.{Head}
-use Rattle.reader.specs.Asks.{head_of, Heads, viewed}
+use Rattle.reader.specs.declared.geometry.HeadAnswer.{HeadAnswer}
+use Rattle.reader.specs.Asks.{head_of, Heads, viewed, head_meant}
 use Rattle.reader.specs.Walk.{Room, whole}
+use Rattle.reader.proofs.Known.{bytes_known}
+use Rattle.reader.proofs.Children.{inside_rings}
 
 -- what is known where a header opened
 pub record Opening (b : List ℕ) (a : Asks) (l at : ℕ) (head : Head) : Type 0 where
@@ -109,3 +114,19 @@ module _ (b : List ℕ) (all : Bytes b) (a : Asks) (l at : ℕ) where
       go (geometries y) e =
           let f : Enough (geometries y) (suc l) 18 = subst (λ (p : Place). Enough p (suc l) 18) e enough in
           (enough_more (geometries y) (suc l) 18 f, (let three = k' in let z = no_ring o.h y e in let le = shallow o.h o.holds room.0 (omega arith) in omega arith))
+
+-- what the code knows where its header opened
+pub opens : (b : List ℕ) → ((i : ℕ) → Fits w8 (get_or b i 0)) → (a : Asks) (l at : ℕ) {answer : HeadAnswer} {head : Head} → answer ≡ HeadAnswer.Opens head
+    → head_meant answer ≡ viewed (header b (geometries a) l at) → Opening b a l at head
+opens b f a l at {answer} {head} i e = opened_head b (bytes_known b f) a l at head (ap head_meant (sym i) ∙ e)
+
+module _ {b : List ℕ} {a : Asks} {l at : ℕ} {head : Head} (o : Opening b a l at head) where
+  pub kind_same : o.h.kind ≡ head.kind
+  kind_same = ap (λ (x : Head). x.kind) o.heads.same
+
+  -- neither a Point nor a LineString: a parent
+  pub parents : (head.kind ≡ 1 → ⊥) → (head.kind ≡ 2 → ⊥) → 3 ≤ head.kind
+  parents one two = let k = o.kind in omega (arith, k.0, one, two)
+
+  pub rings_inside : head.kind ≡ 3 → inside o.h ≡ rings head.order head.dimension
+  rings_inside e = inside_rings o.h head.order head.dimension (kind_same ∙ e) (ap (λ (x : Head). x.order) o.heads.same) (ap (λ (x : Head). x.dimension) o.heads.same)

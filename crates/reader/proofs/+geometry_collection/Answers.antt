@@ -1,5 +1,5 @@
 -- The dispatch over kinds and the walk over children meet their contracts. Assumes nothing.
-use Rattle.std.proofs.Common.{◌≡◌, ◌+◌, ◌-◌, ◌≤◌, Bool, true, sym, ap, subst, ◌∙◌, arith}
+use Rattle.std.proofs.Common.{◌≡◌, ◌+◌, ◌-◌, Bool, true, sym, ap, subst, ◌∙◌, arith}
 use Rattle.meaning.specs.Grammar.{Place, inside, rings, geometries}
 use Rattle.meaning.specs.Answer.{answered}
 use Rattle.meaning.specs.Reading.{forest}
@@ -8,10 +8,9 @@ use Rattle.reader.specs.declared.walk.Walk.{Walk}
 use Rattle.reader.specs.Asks.{asks_of, head_meant}
 use Rattle.reader.specs.Walk.{State, Room, whole, walked}
 use Rattle.reader.proofs.Known.{bytes_known}
-use Rattle.reader.proofs.Children.{inside_rings}
 use Rattle.reader.proofs.Walks.{turn, turned_away, none_left, onward}
 use Rattle.reader.proofs.Closings.{parent_2, close_whole, closable}
-use Rattle.reader.proofs.Geometries.{opened_head, refused_head, opened_whole, room_inside}
+use Rattle.reader.proofs.Geometries.{refused_head, opened_whole, room_inside, opens, kind_same, parents, rings_inside}
 use Rattle.reader.proofs.+geometry_collection.Goals as goal
 
 -- a Point
@@ -19,9 +18,7 @@ pub geometry::geometry-point-requires : goal.geometry::geometry-point-requires
 geometry::geometry-point-requires t c =
     let a = c.args in
     let p = c.requires in
-    let b = bytes_known a.buf.now c.type_inv.buf in
-    let hd = c.in-Opens.head in
-    let o = opened_head a.buf.now b (asks_of a.parent) a.level a.at.0 hd (ap head_meant (sym c.in-Opens.is) ∙ c.header-answer.ensures) in
+    let o = opens a.buf.now c.type_inv.buf (asks_of a.parent) a.level a.at.0 c.in-Opens.is c.header-answer.ensures in
     (p.0, p.1, omega (arith, o.onward), o.within, omega (arith, p.2.1), c.if-kind-eq1.true)
 
 pub geometry::geometry-returns-then-kind-eq1 : goal.geometry::geometry-returns-then-kind-eq1
@@ -30,7 +27,7 @@ geometry::geometry-returns-then-kind-eq1 t c =
     let p = c.requires in
     let b = bytes_known a.buf.now c.type_inv.buf in
     let hd = c.in-Opens.head in
-    let o = opened_head a.buf.now b (asks_of a.parent) a.level a.at.0 hd (ap head_meant (sym c.in-Opens.is) ∙ c.header-answer.ensures) in
+    let o = opens a.buf.now c.type_inv.buf (asks_of a.parent) a.level a.at.0 c.in-Opens.is c.header-answer.ensures in
     c.point.ensures o.h o.heads ∙ opened_whole a.buf.now b (asks_of a.parent) a.level a.at.0 p.2 a.old.now a.out.now a.row.0 hd o
 
 -- a LineString
@@ -38,9 +35,7 @@ pub geometry::geometry-line_string-requires : goal.geometry::geometry-line_strin
 geometry::geometry-line_string-requires t c =
     let a = c.args in
     let p = c.requires in
-    let b = bytes_known a.buf.now c.type_inv.buf in
-    let hd = c.in-Opens.head in
-    let o = opened_head a.buf.now b (asks_of a.parent) a.level a.at.0 hd (ap head_meant (sym c.in-Opens.is) ∙ c.header-answer.ensures) in
+    let o = opens a.buf.now c.type_inv.buf (asks_of a.parent) a.level a.at.0 c.in-Opens.is c.header-answer.ensures in
     (p.0, p.1, omega (arith, o.onward), o.within, omega (arith, p.2.1), omega (arith, c.if-kind-eq2.true), c.if-kind-eq1.false)
 
 pub geometry::geometry-returns-then-kind-eq2 : goal.geometry::geometry-returns-then-kind-eq2
@@ -49,17 +44,14 @@ geometry::geometry-returns-then-kind-eq2 t c =
     let p = c.requires in
     let b = bytes_known a.buf.now c.type_inv.buf in
     let hd = c.in-Opens.head in
-    let o = opened_head a.buf.now b (asks_of a.parent) a.level a.at.0 hd (ap head_meant (sym c.in-Opens.is) ∙ c.header-answer.ensures) in
+    let o = opens a.buf.now c.type_inv.buf (asks_of a.parent) a.level a.at.0 c.in-Opens.is c.header-answer.ensures in
     c.line_string.ensures o.h o.heads ∙ opened_whole a.buf.now b (asks_of a.parent) a.level a.at.0 p.2 a.old.now a.out.now a.row.0 hd o
 
 -- no count
 pub geometry::geometry-overflow_sub-buf : goal.geometry::geometry-overflow_sub-buf
 geometry::geometry-overflow_sub-buf t c =
     let a = c.args in
-    let p = c.requires in
-    let b = bytes_known a.buf.now c.type_inv.buf in
-    let hd = c.in-Opens.head in
-    let o = opened_head a.buf.now b (asks_of a.parent) a.level a.at.0 hd (ap head_meant (sym c.in-Opens.is) ∙ c.header-answer.ensures) in
+    let o = opens a.buf.now c.type_inv.buf (asks_of a.parent) a.level a.at.0 c.in-Opens.is c.header-answer.ensures in
     o.within
 
 pub geometry::geometry-returns-then-buf-next-lt4 : goal.geometry::geometry-returns-then-buf-next-lt4
@@ -68,10 +60,9 @@ geometry::geometry-returns-then-buf-next-lt4 t c =
     let p = c.requires in
     let b = bytes_known a.buf.now c.type_inv.buf in
     let hd = c.in-Opens.head in
-    let o = opened_head a.buf.now b (asks_of a.parent) a.level a.at.0 hd (ap head_meant (sym c.in-Opens.is) ∙ c.header-answer.ensures) in
-    let three : 3 ≤ hd.kind = omega (arith, o.kind, c.if-kind-eq1.false, c.if-kind-eq2.false) in
-    let same : o.h.kind ≡ hd.kind = ap (λ (x : Head). x.kind) o.heads.same in
-    ap (whole a.old.now a.row.0 a.level a.at.0 true a.out.now) (parent_2 a.buf.now o.h a.level hd.next.0 0 (omega arith) c.if-buf-next-lt4.true)
+    let o = opens a.buf.now c.type_inv.buf (asks_of a.parent) a.level a.at.0 c.in-Opens.is c.header-answer.ensures in
+    let three = parents o c.if-kind-eq1.false c.if-kind-eq2.false in
+    ap (whole a.old.now a.row.0 a.level a.at.0 true a.out.now) (parent_2 a.buf.now o.h a.level hd.next.0 0 (omega (arith, three, kind_same o)) c.if-buf-next-lt4.true)
     ∙ opened_whole a.buf.now b (asks_of a.parent) a.level a.at.0 p.2 a.old.now a.out.now a.row.0 hd o
 
 -- rings
@@ -79,18 +70,14 @@ pub geometry::geometry-overflow_add-row : goal.geometry::geometry-overflow_add-r
 geometry::geometry-overflow_add-row t c =
     let a = c.args in
     let p = c.requires in
-    let b = bytes_known a.buf.now c.type_inv.buf in
-    let hd = c.in-Opens.head in
-    let o = opened_head a.buf.now b (asks_of a.parent) a.level a.at.0 hd (ap head_meant (sym c.in-Opens.is) ∙ c.header-answer.ensures) in
+    let o = opens a.buf.now c.type_inv.buf (asks_of a.parent) a.level a.at.0 c.in-Opens.is c.header-answer.ensures in
     omega (arith, o.onward, o.within, p.0, p.1)
 
 pub geometry::geometry-rings-below-requires : goal.geometry::geometry-rings-below-requires
 geometry::geometry-rings-below-requires t c =
     let a = c.args in
     let p = c.requires in
-    let b = bytes_known a.buf.now c.type_inv.buf in
-    let hd = c.in-Opens.head in
-    let o = opened_head a.buf.now b (asks_of a.parent) a.level a.at.0 hd (ap head_meant (sym c.in-Opens.is) ∙ c.header-answer.ensures) in
+    let o = opens a.buf.now c.type_inv.buf (asks_of a.parent) a.level a.at.0 c.in-Opens.is c.header-answer.ensures in
     (p.0, omega (arith, o.onward, p.1), omega (arith, o.within, c.if-buf-next-lt4.false), omega (arith, p.2.1))
 
 pub geometry::geometry-close-requires : goal.geometry::geometry-close-requires
@@ -99,11 +86,9 @@ geometry::geometry-close-requires t c =
     let p = c.requires in
     let b = bytes_known a.buf.now c.type_inv.buf in
     let hd = c.in-Opens.head in
-    let o = opened_head a.buf.now b (asks_of a.parent) a.level a.at.0 hd (ap head_meant (sym c.in-Opens.is) ∙ c.header-answer.ensures) in
-    let three : 3 ≤ hd.kind = omega (arith, o.kind, c.if-kind-eq1.false, c.if-kind-eq2.false) in
-    let same : o.h.kind ≡ hd.kind = ap (λ (x : Head). x.kind) o.heads.same in
-    let pl : inside o.h ≡ rings hd.order hd.dimension =
-    inside_rings o.h hd.order hd.dimension (same ∙ c.if-kind-eq3.true) (ap (λ (x : Head). x.order) o.heads.same) (ap (λ (x : Head). x.dimension) o.heads.same) in
+    let o = opens a.buf.now c.type_inv.buf (asks_of a.parent) a.level a.at.0 c.in-Opens.is c.header-answer.ensures in
+    let three = parents o c.if-kind-eq1.false c.if-kind-eq2.false in
+    let pl = rings_inside o c.if-kind-eq3.true in
     closable a.buf.now b a.old.now a.out.now a.row.0 a.level a.at.0 c.read_u32-count.result hd o.h o.heads three c.if-buf-next-lt4.false c.read_u32-count.ensures (rings hd.order hd.dimension) pl c.rings-below.result c.rings-below.new.out c.rings-below.ensures p.0 (omega (arith, o.kind)) (omega (arith, p.2.1)) (omega (arith, o.onward, o.within, p.0))
 
 pub geometry::geometry-returns-then-kind-eq3 : goal.geometry::geometry-returns-then-kind-eq3
@@ -112,11 +97,9 @@ geometry::geometry-returns-then-kind-eq3 t c =
     let p = c.requires in
     let b = bytes_known a.buf.now c.type_inv.buf in
     let hd = c.in-Opens.head in
-    let o = opened_head a.buf.now b (asks_of a.parent) a.level a.at.0 hd (ap head_meant (sym c.in-Opens.is) ∙ c.header-answer.ensures) in
-    let three : 3 ≤ hd.kind = omega (arith, o.kind, c.if-kind-eq1.false, c.if-kind-eq2.false) in
-    let same : o.h.kind ≡ hd.kind = ap (λ (x : Head). x.kind) o.heads.same in
-    let pl : inside o.h ≡ rings hd.order hd.dimension =
-    inside_rings o.h hd.order hd.dimension (same ∙ c.if-kind-eq3.true) (ap (λ (x : Head). x.order) o.heads.same) (ap (λ (x : Head). x.dimension) o.heads.same) in
+    let o = opens a.buf.now c.type_inv.buf (asks_of a.parent) a.level a.at.0 c.in-Opens.is c.header-answer.ensures in
+    let three = parents o c.if-kind-eq1.false c.if-kind-eq2.false in
+    let pl = rings_inside o c.if-kind-eq3.true in
     c.close.ensures
     ∙ close_whole a.buf.now b a.old.now a.out.now a.row.0 a.level a.at.0 c.read_u32-count.result hd o.h o.heads three c.if-buf-next-lt4.false c.read_u32-count.ensures (rings hd.order hd.dimension) pl c.rings-below.result c.rings-below.new.out c.rings-below.ensures
     ∙ opened_whole a.buf.now b (asks_of a.parent) a.level a.at.0 p.2 a.old.now a.out.now a.row.0 hd o
@@ -126,18 +109,13 @@ pub geometry::geometry-overflow_add-row-in-Opens : goal.geometry::geometry-overf
 geometry::geometry-overflow_add-row-in-Opens t c =
     let a = c.args in
     let p = c.requires in
-    let b = bytes_known a.buf.now c.type_inv.buf in
-    let hd = c.in-Opens.head in
-    let o = opened_head a.buf.now b (asks_of a.parent) a.level a.at.0 hd (ap head_meant (sym c.in-Opens.is) ∙ c.header-answer.ensures) in
+    let o = opens a.buf.now c.type_inv.buf (asks_of a.parent) a.level a.at.0 c.in-Opens.is c.header-answer.ensures in
     omega (arith, o.onward, o.within, p.0, p.1)
 
 pub geometry::geometry-parent_of-requires : goal.geometry::geometry-parent_of-requires
 geometry::geometry-parent_of-requires t c =
     let a = c.args in
-    let p = c.requires in
-    let b = bytes_known a.buf.now c.type_inv.buf in
-    let hd = c.in-Opens.head in
-    let o = opened_head a.buf.now b (asks_of a.parent) a.level a.at.0 hd (ap head_meant (sym c.in-Opens.is) ∙ c.header-answer.ensures) in
+    let o = opens a.buf.now c.type_inv.buf (asks_of a.parent) a.level a.at.0 c.in-Opens.is c.header-answer.ensures in
     omega (arith, o.kind, c.if-kind-eq1.false, c.if-kind-eq2.false, c.if-kind-eq3.false)
 
 pub geometry::geometry-collection-below-requires : goal.geometry::geometry-collection-below-requires
@@ -146,10 +124,9 @@ geometry::geometry-collection-below-requires t c =
     let p = c.requires in
     let b = bytes_known a.buf.now c.type_inv.buf in
     let hd = c.in-Opens.head in
-    let o = opened_head a.buf.now b (asks_of a.parent) a.level a.at.0 hd (ap head_meant (sym c.in-Opens.is) ∙ c.header-answer.ensures) in
-    let three : 3 ≤ hd.kind = omega (arith, o.kind, c.if-kind-eq1.false, c.if-kind-eq2.false) in
-    let same : o.h.kind ≡ hd.kind = ap (λ (x : Head). x.kind) o.heads.same in
-    let pl : inside o.h ≡ geometries (asks_of c.parent_of.result) = c.parent_of.ensures o.h same (ap (λ (x : Head). x.dimension) o.heads.same) in (
+    let o = opens a.buf.now c.type_inv.buf (asks_of a.parent) a.level a.at.0 c.in-Opens.is c.header-answer.ensures in
+    let three = parents o c.if-kind-eq1.false c.if-kind-eq2.false in
+    let pl : inside o.h ≡ geometries (asks_of c.parent_of.result) = c.parent_of.ensures o.h (kind_same o) (ap (λ (x : Head). x.dimension) o.heads.same) in (
       omega (arith, o.onward, o.within, p.0, c.decreases, c.if-buf-next-lt4.false),
       (p.0, omega (arith, o.onward, p.1), subst (λ (x : Place). Room x (a.level + 1)) pl (room_inside a.buf.now b (asks_of a.parent) a.level a.at.0 p.2 hd o three)),
     )
@@ -160,10 +137,9 @@ geometry::geometry-close-requires-in-Opens t c =
     let p = c.requires in
     let b = bytes_known a.buf.now c.type_inv.buf in
     let hd = c.in-Opens.head in
-    let o = opened_head a.buf.now b (asks_of a.parent) a.level a.at.0 hd (ap head_meant (sym c.in-Opens.is) ∙ c.header-answer.ensures) in
-    let three : 3 ≤ hd.kind = omega (arith, o.kind, c.if-kind-eq1.false, c.if-kind-eq2.false) in
-    let same : o.h.kind ≡ hd.kind = ap (λ (x : Head). x.kind) o.heads.same in
-    let pl : inside o.h ≡ geometries (asks_of c.parent_of.result) = c.parent_of.ensures o.h same (ap (λ (x : Head). x.dimension) o.heads.same) in
+    let o = opens a.buf.now c.type_inv.buf (asks_of a.parent) a.level a.at.0 c.in-Opens.is c.header-answer.ensures in
+    let three = parents o c.if-kind-eq1.false c.if-kind-eq2.false in
+    let pl : inside o.h ≡ geometries (asks_of c.parent_of.result) = c.parent_of.ensures o.h (kind_same o) (ap (λ (x : Head). x.dimension) o.heads.same) in
     closable a.buf.now b a.old.now a.out.now a.row.0 a.level a.at.0 c.read_u32-count.result hd o.h o.heads three c.if-buf-next-lt4.false c.read_u32-count.ensures (geometries (asks_of c.parent_of.result)) pl c.collection-below.result c.collection-below.new.out c.collection-below.ensures p.0 (omega (arith, o.kind)) (omega (arith, p.2.1)) (omega (arith, o.onward, o.within, p.0))
 
 pub geometry::geometry-returns-else-kind-eq3 : goal.geometry::geometry-returns-else-kind-eq3
@@ -172,10 +148,9 @@ geometry::geometry-returns-else-kind-eq3 t c =
     let p = c.requires in
     let b = bytes_known a.buf.now c.type_inv.buf in
     let hd = c.in-Opens.head in
-    let o = opened_head a.buf.now b (asks_of a.parent) a.level a.at.0 hd (ap head_meant (sym c.in-Opens.is) ∙ c.header-answer.ensures) in
-    let three : 3 ≤ hd.kind = omega (arith, o.kind, c.if-kind-eq1.false, c.if-kind-eq2.false) in
-    let same : o.h.kind ≡ hd.kind = ap (λ (x : Head). x.kind) o.heads.same in
-    let pl : inside o.h ≡ geometries (asks_of c.parent_of.result) = c.parent_of.ensures o.h same (ap (λ (x : Head). x.dimension) o.heads.same) in
+    let o = opens a.buf.now c.type_inv.buf (asks_of a.parent) a.level a.at.0 c.in-Opens.is c.header-answer.ensures in
+    let three = parents o c.if-kind-eq1.false c.if-kind-eq2.false in
+    let pl : inside o.h ≡ geometries (asks_of c.parent_of.result) = c.parent_of.ensures o.h (kind_same o) (ap (λ (x : Head). x.dimension) o.heads.same) in
     c.close-in-Opens.ensures
     ∙ close_whole a.buf.now b a.old.now a.out.now a.row.0 a.level a.at.0 c.read_u32-count.result hd o.h o.heads three c.if-buf-next-lt4.false c.read_u32-count.ensures (geometries (asks_of c.parent_of.result)) pl c.collection-below.result c.collection-below.new.out c.collection-below.ensures
     ∙ opened_whole a.buf.now b (asks_of a.parent) a.level a.at.0 p.2 a.old.now a.out.now a.row.0 hd o
