@@ -2,12 +2,13 @@
 ghost use Rattle.std.specs.Prelude.{◌≡◌};
 ghost use Rattle.codes.specs.Line.{code_of};
 
-use text::line::{Digit, digit_of};
+use std::error::Error;
+use std::fmt;
+use text::spelt::digit_of;
 
-// What a line spells, or the first thing that is wrong with it.
-#[derive(Clone, Copy)]
-pub enum Spelt {
-    Code(u32),
+// The first thing that is wrong with a line.
+#[derive(Clone, Copy, Debug, PartialEq, Eq)]
+pub enum SpellingError {
     Empty,
     // how many characters there are
     TooLong(usize),
@@ -15,27 +16,33 @@ pub enum Spelt {
     NotHex(usize),
 }
 
-pub fn code_of(line: &[u8]) -> Spelt
+impl fmt::Display for SpellingError {
+    fn fmt<W: fmt::Write>(&self, f: &mut fmt::Formatter<W>) -> fmt::Result {
+        match self {
+            SpellingError::Empty => write!(f, "empty"),
+            SpellingError::TooLong(n) => write!(f, "{n} characters"),
+            SpellingError::NotHex(i) => write!(f, "character {i} is no hex digit"),
+        }
+    }
+}
+
+impl Error for SpellingError {}
+
+pub fn code_of(line: &[u8]) -> Result<u32, SpellingError>
     ensures { result ≡ code_of line.now }
 {
-    if line.len() == 0 {
-        return Spelt::Empty;
+    if line.is_empty() {
+        return Err(SpellingError::Empty);
     }
-    if 8 < line.len() {
-        return Spelt::TooLong(line.len());
+    if line.len() > 8 {
+        return Err(SpellingError::TooLong(line.len()));
     }
     let mut code = 0;
-    let mut i = 0;
-    while i < line.len() {
-        match digit_of(line[i]) {
-            Digit::Value(d) => {
-                code = 16 * code + d;
-            }
-            Digit::NoDigit => {
-                return Spelt::NotHex(i + 1);
-            }
-        }
-        i += 1;
+    for (i, &b) in line.iter().enumerate() {
+        let Some(digit) = digit_of(b) else {
+            return Err(SpellingError::NotHex(i + 1));
+        };
+        code = 16 * code + digit;
     }
-    Spelt::Code(code)
+    Ok(code)
 }

@@ -42,46 +42,45 @@ next_digit LittleEndian b at w n h r =
     let q : at + (w - n) ≡ suc k = omega arith in
     rw (p, q, drop-cons b k 0)
 
--- n digits are left, the highest; v is the number of those below them, and p the value of the next one's place
+-- n digits are left, the highest; v is the number of those below them, and p the value of the next one's place, if there is one
 pub record Read (o : Endianness) (b : List ℕ) (at w v p n : ℕ) : Type 0 where
-  pub within : n ≤ w
-  pub place : p ≡ 256 ^ (w - n)
-  pub below : v < p
-  pub left : v + p * number_at o n b (top_of o at w n) ≡ number_at o w b at
+  pub place : 0 < n → p ≡ 256 ^ (w - n)
+  pub below : v < 256 ^ (w - n)
+  pub left : v + 256 ^ (w - n) * number_at o n b (top_of o at w n) ≡ number_at o w b at
 
 pub read_none : {o : Endianness} {b : List ℕ} {at w : ℕ} → Read o b at w 0 1 w
-read_none {o} {b} {at} {w} = record { within = omega arith; place = rw sub_self; below = lit< tt; left = rw top_all (omega arith) }
+read_none {o} {b} {at} {w} = record { place = λ _. rw sub_self; below = rw sub_self (lit< tt); left = rw (sub_self, top_all) (omega arith) }
 
 module _ {o : Endianness} {b : List ℕ} {at w v p n : ℕ} (r : Read o b at w v p n) where
-  pub place_room : 0 < n → w ≤ 8 → p ≤ 2 ^ 56
-  place_room h g = omega (arith, pow-le-pow_right {n = 256} (lit< tt) {i = w - n} {j = 7} (omega arith))
+  place_room : 0 < n → w ≤ 8 → p ≤ 2 ^ 56
+  place_room h g = omega (arith, r.place h, pow-le-pow_right {n = 256} (lit< tt) {i = w - n} {j = 7} (omega arith))
 
-  under_place : {x : ℕ} → x < 256 → v + x * p < p * 256
-  under_place {x} h = omega (arith, mul-le-mul_right {m = x} {n = 255} p (omega arith))
+  under_place : {x : ℕ} → 0 < n → x < 256 → v + x * p < p * 256
+  under_place {x} h k = omega (arith, r.below, r.place h, mul-le-mul_right {m = x} {n = 255} p (omega arith))
 
   pub digit_room : {x : ℕ} → 0 < n → w ≤ 8 → x < 256 → v + x * p < 2 ^ 64
-  digit_room h g x = omega (arith, place_room h g, under_place x)
+  digit_room h g x = omega (arith, place_room h g, under_place h x)
 
-  pub read_next : {x j : ℕ} → 0 < n → at + w ≤ length b → j ≡ place_of o w (n - 1) → x ≡ get_or b (at + j) 0 → x < 256
-      → Read o b at w (v + x * p) (p * 256) (n - 1)
-  read_next {x} {j} h l e f g =
+  pub read_next : {x j : ℕ} → 0 < n → n ≤ w → w ≤ 8 → at + w ≤ length b → j ≡ place_of o w (n - 1) → x ≡ get_or b (at + j) 0 → x < 256
+      → Read o b at w (v + x * p) (p * 256 % 2 ^ 64) (n - 1)
+  read_next {x} {j} h q w8 l e f g =
       let m : n ≡ suc (n - 1) = omega arith in
       let k : w - (n - 1) ≡ suc (w - n) = omega arith in
       let d : number_at o n b (top_of o at w n) ≡ x + 256 * number_at o (n - 1) b (top_of o at w (n - 1)) =
       ap (λ (i : ℕ). number_at o i b (top_of o at w i)) m ∙ rw (f, e) (next_digit o b at w (n - 1) (omega arith) l)
       in
+      let pl = r.place h in
       record {
-        within = omega arith;
-        place = rw (k, pow-suc, r.place);
-        below = under_place g;
-        left = omega (arith, rw d at r.left);
+        place = λ h'. rw (k, pow-suc) (omega (arith, pl, pow-le-pow_right {n = 256} (lit< tt) {i = w - n} {j = 6} (omega arith)));
+        below = rw (k, pow-suc) (omega (arith, pl, under_place h g));
+        left = rw (k, pow-suc, ← pl) (omega (arith, rw (d, ← pl) at r.left));
       }
 
   pub read_all : n ≡ 0 → (v ≡ number_at o w b at) × (v < 256 ^ w)
   read_all e =
       let z : number_at o n b (top_of o at w n) ≡ 0 = ap (λ (i : ℕ). number_at o i b (top_of o at w i)) e ∙ no_digit o b (top_of o at w 0) in
       let k : w - n ≡ w = omega arith in
-      (omega (arith, rw z at r.left), omega (arith, rw k at r.place))
+      (omega (arith, rw z at r.left), rw k at r.below)
 
 -- ---- Writing
 
@@ -117,22 +116,13 @@ lay_next LittleEndian s at w n y h r =
 
 -- n digits are left, those of y: s with them is s₀ with all the digits of x
 pub record Put (o : Endianness) (at w x : ℕ) (s₀ : List ℕ) (y n : ℕ) (s : List ℕ) : Type 0 where
-  pub within : n ≤ w
-  pub same : length s ≡ length s₀
   pub left : laid o n (top_of o at w n) y s ≡ laid o w at x s₀
 
-pub put_none : {o : Endianness} {at w x : ℕ} {s : List ℕ} → Put o at w x s x w s
-put_none {o} {at} {w} = record { within = omega arith; same = refl; left = rw top_all }
-
 module _ {o : Endianness} {at w x : ℕ} {s₀ : List ℕ} {y n : ℕ} {s : List ℕ} (p : Put o at w x s₀ y n s) where
-  pub put_next : {j : ℕ} → 0 < n → at + w ≤ length s₀ → j ≡ place_of o w (n - 1) → Put o at w x s₀ (y / 256) (n - 1) (set s (at + j) (y % 256))
-  put_next {j} h l e =
+  pub put_next : {j : ℕ} → 0 < n → n ≤ w → at + w ≤ length s → j ≡ place_of o w (n - 1) → Put o at w x s₀ (y / 256) (n - 1) (set s (at + j) (y % 256))
+  put_next {j} h g l e =
       let f : n ≡ suc (n - 1) = omega arith in
-      record {
-        within = omega arith;
-        same = rw length-set p.same;
-        left = rw e (lay_next o s at w (n - 1) y (omega arith) (omega arith)) ∙ ap (λ (m : ℕ). laid o m (top_of o at w m) y s) (sym f) ∙ p.left;
-      }
+      record { left = rw e (lay_next o s at w (n - 1) y (omega arith) l) ∙ ap (λ (m : ℕ). laid o m (top_of o at w m) y s) (sym f) ∙ p.left }
 
   pub put_all : n ≡ 0 → s ≡ laid o w at x s₀
-  put_all e = lay_none o (top_of o at w n) y s ∙ ap (λ (m : ℕ). laid o m (top_of o at w n) y s) (sym e) ∙ p.left
+  put_all e = lay_none o (top_of o at w 0) y s ∙ ap (λ (m : ℕ). laid o m (top_of o at w m) y s) (sym e) ∙ p.left

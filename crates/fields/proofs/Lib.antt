@@ -1,4 +1,3 @@
-pub mod Codes
 mod Digits
 mod Parts
 pub mod Rows

@@ -1,5 +1,5 @@
 -- Where the digits of a number stand among its bytes.
-use Rattle.std.specs.Prelude.{ℕ, ◌-◌}
+use Rattle.std.specs.Prelude.{ℕ, ◌-◌, Bool, true, false}
 use Rattle.meaning.specs.declared.Endianness.{Endianness}
 use Rattle.meaning.specs.declared.Endianness.TheVariants.{BigEndian, LittleEndian}
 
@@ -7,3 +7,7 @@ use Rattle.meaning.specs.declared.Endianness.TheVariants.{BigEndian, LittleEndia
 abbrev pub place_of : Endianness → ℕ → ℕ → ℕ
 place_of BigEndian w n = n
 place_of LittleEndian w n = w - 1 - n
+
+abbrev pub order_if : Bool → Endianness
+order_if true = BigEndian
+order_if false = LittleEndian

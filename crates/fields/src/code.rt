@@ -1,11 +1,11 @@
 // Type codes and dimensions.
-ghost use Rattle.std.specs.Prelude.{◌≡◌, ◌≤◌};
+ghost use Rattle.std.specs.Prelude.{◌≡◌, ◌≤◌, ◌&&◌, cond, leb, Some, None};
 ghost use Rattle.meaning.specs.Answer.{type_meant};
 ghost use Rattle.meaning.specs.Number.{order_byte};
 ghost use Rattle.meaning.specs.Reading.{order_of};
-ghost use Rattle.meaning.specs.Code.{dimension_number, dimension_of, flagged_type, iso_code, iso_type, size, type_of};
+ghost use Rattle.meaning.specs.Code.{kind_number, kind_of, dimension_number, dimension_of, flagged_type, iso_code, iso_type, size, type_of};
 
-use meaning::{Dimension, Endianness, TypeAnswer, WkbType};
+use meaning::{Dimension, Endianness, Kind, WkbType};
 
 // The flags are the three highest bits of a code. So a code below the lowest has none, and the other 29 bits are what is left of a
 // division by it.
@@ -16,7 +16,8 @@ const EWKB_FLAG_M: u32 = 0x40000000;
 const EWKB_FLAG_SRID: u32 = 0x20000000;
 
 // What a type code says. The codes with no flag are the common ones, and come first.
-pub fn type_of(code: u32) -> TypeAnswer
+#[tactic(auto, unfolding(meaning::specs::Code::type_of))]
+pub fn type_of(code: u32) -> Option<WkbType>
     ensures { type_meant result ≡ type_of code }
 {
     if code < EWKB_FLAG_SRID {
@@ -25,44 +26,40 @@ pub fn type_of(code: u32) -> TypeAnswer
     flagged_type(code)
 }
 
-fn iso_type(code: u32) -> TypeAnswer
+fn iso_type(code: u32) -> Option<WkbType>
     ensures { type_meant result ≡ iso_type code }
 {
     let thousands = code / 1000;
-    let kind = code % 1000;
     if 3 < thousands {
-        return TypeAnswer::NotAllowed;
+        return None;
     }
-    if kind < 1 {
-        return TypeAnswer::NotAllowed;
-    }
-    if 7 < kind {
-        return TypeAnswer::NotAllowed;
-    }
-    TypeAnswer::Known(WkbType {
-        kind: kind as usize,
+    Some(WkbType {
+        kind: kind_in_code(code % 1000)?,
         dimension: dimension_of(thousands as usize),
         srid: false,
     })
 }
 
-fn flagged_type(code: u32) -> TypeAnswer
+fn flagged_type(code: u32) -> Option<WkbType>
     ensures { type_meant result ≡ flagged_type code }
 {
-    let kind = code % EWKB_FLAG_SRID;
-    if kind < 1 {
-        return TypeAnswer::NotAllowed;
-    }
-    if 7 < kind {
-        return TypeAnswer::NotAllowed;
-    }
     let z = code / EWKB_FLAG_Z % 2;
     let m = code / EWKB_FLAG_M % 2;
-    TypeAnswer::Known(WkbType {
-        kind: kind as usize,
+    Some(WkbType {
+        kind: kind_in_code(code % EWKB_FLAG_SRID)?,
         dimension: dimension_of((z + 2 * m) as usize),
         srid: code / EWKB_FLAG_SRID % 2 == 1,
     })
+}
+
+// The kind of this number in a code: 1 to 7.
+fn kind_in_code(t: u32) -> Option<Kind>
+    ensures { result ≡ cond (leb 1 t && leb t 7) (Some (kind_of t)) None }
+{
+    if t < 1 || 7 < t {
+        return None;
+    }
+    Some(kind_of(t as usize))
 }
 
 // How many ordinates a coordinate has.
@@ -78,23 +75,39 @@ pub fn size(d: Dimension) -> usize
 }
 
 // The code of a kind and dimension, with no flag.
-pub fn iso_code(kind: usize, d: Dimension) -> u32
-    requires { kind ≤ 7 }
+pub fn iso_code(kind: Kind, d: Dimension) -> u32
     ensures { result ≡ iso_code kind d }
 {
-    (1000 * dimension_number(d) + kind) as u32
+    (1000 * dimension_number(d) + kind_number(kind)) as u32
+}
+
+// 0 to 7. The bound is there for callers that compute with it.
+pub fn kind_number(kind: Kind) -> usize
+    ensures { (result ≡ kind_number kind) × (result ≤ 7) }
+{
+    kind as usize
+}
+
+pub fn kind_of(k: usize) -> Kind
+    ensures { result ≡ kind_of k }
+{
+    match k {
+        0 => Kind::Ring,
+        1 => Kind::Point,
+        2 => Kind::LineString,
+        3 => Kind::Polygon,
+        4 => Kind::MultiPoint,
+        5 => Kind::MultiLineString,
+        6 => Kind::MultiPolygon,
+        _ => Kind::GeometryCollection,
+    }
 }
 
 // 0 to 3. The bound is there for callers that compute with it.
 pub fn dimension_number(d: Dimension) -> usize
     ensures { (result ≡ dimension_number d) × (result ≤ 3) }
 {
-    match d {
-        Dimension::Xy => 0,
-        Dimension::Xyz => 1,
-        Dimension::Xym => 2,
-        Dimension::Xyzm => 3,
-    }
+    d as usize
 }
 
 pub fn dimension_of(k: usize) -> Dimension
@@ -112,10 +125,7 @@ pub fn dimension_of(k: usize) -> Dimension
 pub fn order_byte(order: Endianness) -> usize
     ensures { (result ≡ order_byte order) × (result ≤ 1) }
 {
-    match order {
-        Endianness::BigEndian => 0,
-        Endianness::LittleEndian => 1,
-    }
+    order as usize
 }
 
 pub fn order_of(x: usize) -> Endianness

@@ -2,33 +2,27 @@
 // Word A, by each field's lowest bit: kind 61, dimension 59, order 58, SRID flag 57, level 51, start 20, end 0.
 // Word B: count 44, subtree 24, body 4.
 ghost use Rattle.std.specs.Prelude.{◌≡◌, ◌<◌};
-ghost use Rattle.meaning.specs.Table.{bit, fields_a, fields_b, word_a, word_b, Fit, fields_of, rows_of, fetch};
+ghost use Rattle.meaning.specs.Table.{fields_a, fields_b, word_a, word_b, Fit, fields_of, rows_of, fetch};
 
-use crate::code::{dimension_number, dimension_of, order_byte, order_of};
+use crate::code::{dimension_number, dimension_of, kind_number, kind_of, order_byte, order_of};
 use meaning::{Offset, Row, RowFields};
 
-fn bit(b: bool) -> usize
-    ensures { result ≡ bit b }
-{
-    if b { 1 } else { 0 }
-}
-
+#[tactic(auto, unfolding(meaning::specs::Table::pack, meaning::specs::Table::sum))]
 pub fn word_a(f: RowFields) -> u64
     requires { Fit (fields_a f) }
     ensures { result ≡ word_a f }
 {
-    let dimension = f.dimension;
-    let order = f.order;
-    let word = f.kind * 0x2000_0000_0000_0000
-        + dimension_number(dimension) * 0x0800_0000_0000_0000
-        + order_byte(order) * 0x0400_0000_0000_0000
-        + bit(f.srid) * 0x0200_0000_0000_0000
+    let word = kind_number(f.kind) * 0x2000_0000_0000_0000
+        + dimension_number(f.dimension) * 0x0800_0000_0000_0000
+        + order_byte(f.order) * 0x0400_0000_0000_0000
+        + usize::from(f.srid) * 0x0200_0000_0000_0000
         + f.level * 0x0008_0000_0000_0000
         + f.start.0 * 0x10_0000
         + f.end.0;
     word as u64
 }
 
+#[tactic(auto, unfolding(meaning::specs::Table::pack, meaning::specs::Table::sum))]
 pub fn word_b(f: RowFields) -> u64
     requires { Fit (fields_b f) }
     ensures { result ≡ word_b f }
@@ -37,13 +31,14 @@ pub fn word_b(f: RowFields) -> u64
     word as u64
 }
 
+#[tactic(auto, using(crate::proofs::Parts::unpack_parts), unfolding(crate::proofs::Parts::parts, meaning::specs::Table::sum))]
 pub fn fields_of(a: u64, b: u64) -> RowFields
     ensures { result ≡ fields_of a b }
 {
     let x = a as usize;
     let y = b as usize;
     RowFields {
-        kind: x / 0x2000_0000_0000_0000,
+        kind: kind_of(x / 0x2000_0000_0000_0000),
         dimension: dimension_of(x / 0x0800_0000_0000_0000 % 0x4),
         order: order_of(x / 0x0400_0000_0000_0000 % 0x2),
         srid: x / 0x0200_0000_0000_0000 % 0x2 == 1,

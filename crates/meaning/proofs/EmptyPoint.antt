@@ -5,9 +5,9 @@ use mathlib.Core.Path.{◌≡◌, refl}
 use mathlib.Core.Bool.{true, false, and-false}
 use mathlib.Core.List.{[], ◌∷◌}
 use lib.ListN.{length, get_or}
-use lib.Dec.{eqb}
-use borrow.Author.Tests.{eq-eqb}
+use Rattle.meaning.specs.declared.Kind.TheVariants.{Point}
 use Rattle.meaning.specs.Number.{Each}
+use Rattle.meaning.specs.Code.{same_kind}
 use Rattle.meaning.specs.Grammar.{Header, Ordinates, is_nan, every, empty_point}
 
 every_not : (xs : Ordinates) (i : ℕ) → i < length xs → is_nan (get_or xs i 0) ≡ false → every is_nan xs ≡ false
@@ -23,8 +23,8 @@ every_all (x ∷ xs) p = rw p.0 (every_all xs p.1)
 
 pub one_number : (h : Header) (xs : Ordinates) (i : ℕ) → i < length xs → is_nan (get_or xs i 0) ≡ false → empty_point h (xs ∷ []) ≡ false
 unfolding every
-one_number h xs i lt e = rw (every_not xs i lt e) (and-false (eqb h.kind 1))
+one_number h xs i lt e = rw (every_not xs i lt e) (and-false (same_kind h.kind Point))
 
-pub all_are_nan : (h : Header) (xs : Ordinates) → h.kind ≡ 1 → Each (λ x. is_nan x ≡ true) xs → empty_point h (xs ∷ []) ≡ true
+pub all_are_nan : (h : Header) (xs : Ordinates) → h.kind ≡ Point → Each (λ x. is_nan x ≡ true) xs → empty_point h (xs ∷ []) ≡ true
 unfolding every
-all_are_nan h xs k p = rw (eq-eqb h.kind 1 k, every_all xs p)
+all_are_nan h xs k p = rw (k, every_all xs p)

@@ -5,9 +5,8 @@ use mathlib.Core.Path.{◌≡◌, refl, sym, ap, subst, ◌∙◌}
 use mathlib.Core.Bool.{cond}
 use mathlib.Core.List.{List, ◌++◌, append_assoc}
 use lib.ListN.{length, drop, length-append}
-use lib.Dec.{leb}
 use Rattle.meaning.specs.Number.{Bytes}
-use Rattle.meaning.specs.Grammar.{Header, Ordinates, Forest, empty, first, siblings, bytes, count_bytes, ordinate_bytes, Place, inside, WellFormed}
+use Rattle.meaning.specs.Grammar.{Header, Ordinates, Forest, empty, first, siblings, bytes, holds_coordinates, count_bytes, ordinate_bytes, Place, inside, WellFormed}
 use Rattle.meaning.specs.Answer.{answered}
 use Rattle.meaning.specs.Reading.{header, count_of, run, forest}
 use Rattle.meaning.proofs.Fields.{back, From, from_append, behind}
@@ -88,13 +87,13 @@ module _ (b : List ℕ) where
     forest_from (suc d) (suc n) p l at y e =
         back (header b p l at) _ e (λ h h₁ e₁.
         back (count_of b h.0 h.1) _ e₁ (λ c c₁ e₂.
-        back (run b h.0 (cond (leb h.0.kind 2) c.0 0) c.1) _ e₂ (λ cs cs₁ e₃.
-        back (forest b d (cond (leb h.0.kind 2) 0 c.0) (inside h.0) (suc l) cs.1) _ e₃ (λ kids kids₁ e₄.
+        back (run b h.0 (cond (holds_coordinates h.0.kind) c.0 0) c.1) _ e₂ (λ cs cs₁ e₃.
+        back (forest b d (cond (holds_coordinates h.0.kind) 0 c.0) (inside h.0) (suc l) cs.1) _ e₃ (λ kids kids₁ e₄.
         back (forest b (suc d) n p l kids.1) _ e₄ (λ rest rest₁ e₅.
         let (h₂, f₁) = header_from b all p l at h h₁ in
         let (f₂, lt, one) = count_from b all h.0 h.1 c c₁ in
-        let (f₃, cs₂, cs₃) = run_from b all h.0 (cond (leb h.0.kind 2) c.0 0) c.1 cs cs₁ in
-        let (kids₂, kids₃, f₄) = forest_from d (cond (leb h.0.kind 2) 0 c.0) (inside h.0) (suc l) cs.1 kids kids₁ in
+        let (f₃, cs₂, cs₃) = run_from b all h.0 (cond (holds_coordinates h.0.kind) c.0 0) c.1 cs cs₁ in
+        let (kids₂, kids₃, f₄) = forest_from d (cond (holds_coordinates h.0.kind) 0 c.0) (inside h.0) (suc l) cs.1 kids kids₁ in
         let (rest₂, rest₃, f₅) = forest_from (suc d) n p l kids.1 rest rest₁ in
         let (w, body) = body_from h.0 cs.0 kids.0 c.0 cs₂ kids₃ lt one cs₃ in
         let i : (first h.0 cs.0 kids.0 rest.0, rest.1) ≡ y = cc in

@@ -1,23 +1,22 @@
 -- Fits the words: every field of every row of an accepted buffer is below its width, so packing loses nothing. Assumes nothing.
 use Prim.Native.Nat.{ℕ, suc, ◌+◌, ◌*◌, ◌≤◌, ◌<◌}
 use native.Mathlib.Omega.{arith}
-use mathlib.Core.Path.{◌≡◌, ap}
+use mathlib.Core.Path.{◌≡◌}
 use mathlib.Core.Bool.{Bool, true, false, cond}
 use mathlib.Core.List.{List, ◌++◌}
 use lib.ListN.{length, length-append}
-use lib.Dec.{leb}
 use Rattle.meaning.specs.declared.Endianness.{Endianness}
 use Rattle.meaning.specs.declared.Endianness.TheVariants.{BigEndian, LittleEndian}
 use Rattle.meaning.specs.declared.Dimension.{Dimension}
 use Rattle.meaning.specs.declared.Dimension.TheVariants.{Xy, Xyz, Xym, Xyzm}
 use Rattle.meaning.specs.Number.{Each, Bytes, order_byte}
 use Rattle.meaning.specs.Code.{size, dimension_number}
-use Rattle.meaning.specs.Grammar.{Header, Ordinates, Forest, empty, first, siblings, bytes, front, count, ordinate_bytes, is_some, Place, rings, geometries, outermost, inside, said, HeaderAt, Body, WellFormed}
+use Rattle.meaning.specs.Grammar.{Header, Ordinates, Forest, empty, first, siblings, bytes, front, holds_coordinates, count, ordinate_bytes, is_some, Place, outermost, inside, HeaderAt, Body, WellFormed}
 use Rattle.meaning.specs.Answer.{answered}
 use Rattle.meaning.specs.Reading.{reading}
 use Rattle.meaning.specs.Table.{bit, row_of, rows, RowFits}
 use Rattle.meaning.proofs.Lists.{each_append}
-use Rattle.meaning.proofs.Codes.{kind_range}
+use Rattle.meaning.proofs.Codes.{kind_below}
 use Rattle.meaning.proofs.Coordinates.{length_ordinate_bytes}
 use Rattle.meaning.proofs.Bodies.{count_least}
 use Rattle.meaning.proofs.Exact.{depth}
@@ -39,10 +38,6 @@ pub bit_below : (s : Bool) → bit s < 2
 bit_below true = omega arith
 bit_below false = omega arith
 
-pub kind_below : (p : Place) (l : ℕ) (h : Header) → HeaderAt p l h → h.kind < 8
-kind_below (rings o d) l h g = let e = ap (λ (x : Header). x.kind) g in omega arith
-kind_below (geometries a) l h g = let k = (kind_range h.code (said h) g.says).1 in omega arith
-
 -- a coordinate takes bytes
 coordinates_below : (h : Header) (cs : List Ordinates) (kids : Forest) → Body h cs kids → length cs ≤ length (ordinate_bytes h.order cs)
 coordinates_below h cs kids g = go h.dimension (length_ordinate_bytes h.order (size h.dimension) cs g.ordinates)
@@ -55,7 +50,7 @@ coordinates_below h cs kids g = go h.dimension (length_ordinate_bytes h.order (s
 
 -- coordinates or children, each takes bytes
 count_below : (h : Header) (cs : List Ordinates) (kids : Forest) → Body h cs kids → count h cs kids ≤ length (ordinate_bytes h.order cs) + length (bytes kids)
-count_below h cs kids g = let le = count_least h cs kids in let w = go (leb h.kind 2) in omega arith
+count_below h cs kids g = let le = count_least h cs kids in let w = go (holds_coordinates h.kind) in omega arith
   where
     go : (t : Bool) → cond t (length cs) (siblings kids) ≤ length (ordinate_bytes h.order cs) + length (bytes kids)
     go true = omega (arith, coordinates_below h cs kids g)
@@ -64,7 +59,7 @@ count_below h cs kids g = let le = count_least h cs kids in let w = go (leb h.ki
 row_fits : (h : Header) (cs : List Ordinates) (kids : Forest) (p : Place) (l at : ℕ) → HeaderAt p l h → Body h cs kids → l < 64
     → at + length (front h (count h cs kids)) + length (ordinate_bytes h.order cs) + length (bytes kids) ≤ 1048575 → RowFits (row_of at l h cs kids)
 row_fits h cs kids p l at g b lv le =
-    let k = kind_below p l h g in
+    let k = kind_below h.kind in
     let d = dimension_below h.dimension in
     let o = order_below h.order in
     let s = bit_below (is_some h.srid) in

@@ -10,7 +10,7 @@ use borrow.Author.Tests.{not-true, ne_eqb}
 use Rattle.meaning.specs.declared.Endianness.{Endianness}
 use Rattle.meaning.specs.declared.WkbType.{WkbType}
 use Rattle.meaning.specs.Number.{Bytes, order_byte, bytes_of}
-use Rattle.meaning.specs.Code.{type_of}
+use Rattle.meaning.specs.Code.{kind_number, type_of}
 use Rattle.meaning.specs.Grammar.{Header, Asks, Place, rings, geometries, ring_header, header_bytes, srid_bytes, GeometryHeader, HeaderAt, said, is_some, fits, srid_fits, too_deep, Fits32}
 use Rattle.meaning.specs.Answer.{Answer, answered}
 use Rattle.meaning.specs.Reading.{header, known, guard, num, order, srid}
@@ -26,8 +26,8 @@ opening o c = order_byte o ∷ bytes_of o 4 c
 abbrev pub headed : Header → List ℕ
 headed h = header_bytes h ++ srid_bytes h.order h.srid
 
-opens : (h : Header) → 1 ≤ h.kind → header_bytes h ≡ opening h.order h.code
-opens h k = ap (λ (t : Bool). cond t [] (opening h.order h.code)) (ne_eqb h.kind 0 (λ e. omega arith))
+opens : (h : Header) → 1 ≤ kind_number h.kind → header_bytes h ≡ opening h.order h.code
+opens h k = ap (λ (t : Bool). cond t [] (opening h.order h.code)) (ne_eqb (kind_number h.kind) 0 (λ e. omega arith))
 
 module _ (b : List ℕ) where
   header_there' : (a : Asks) (l : ℕ) (h : Header) (at : ℕ) (s : List ℕ) → GeometryHeader a l h → drop at b ≡ opening h.order h.code ++ (srid_bytes h.order h.srid ++ s)

@@ -2,23 +2,25 @@
 use Prim.Native.Nat.{ℕ, zero, suc, ◌+◌, ◌≤◌, ◌<◌}
 use native.Mathlib.Omega.{arith}
 use mathlib.Core.Path.{◌≡◌, refl, ap, ◌∙◌}
-use mathlib.Core.Bool.{Bool, true, false, ◌&&◌, cond}
+use mathlib.Core.Bool.{Bool, true, false, cond}
 use mathlib.Core.Option.{Option, none, some}
 use mathlib.Core.List.{List}
-use lib.Dec.{leb, eqb}
-use borrow.Author.Tests.{eqb-true, eqb-false, eq-eqb, leb-true, leb-false, le-leb}
+use borrow.Author.Tests.{eqb-true, leb-false}
+use Rattle.meaning.specs.declared.Kind.{Kind}
+use Rattle.meaning.specs.declared.Kind.TheVariants.{Ring, Point, LineString, Polygon, MultiPoint, MultiLineString, MultiPolygon, GeometryCollection}
 use Rattle.meaning.specs.Number.{Bytes}
-use Rattle.meaning.specs.Grammar.{Header, Forest, empty, first, siblings, Place, rings, geometries, outermost, inside, asked, asked_dimension, too_deep, said, HeaderAt, WellFormed, Geometry}
+use Rattle.meaning.specs.Code.{kind_number}
+use Rattle.meaning.specs.Grammar.{Header, Forest, empty, first, siblings, Place, rings, geometries, outermost, inside, holds_coordinates, asked, asked_dimension, too_deep, said, HeaderAt, WellFormed, Geometry}
 use Rattle.meaning.specs.Answer.{Answer, refused, answered}
 use Rattle.meaning.specs.Reading.{Reader, after, header, count_of, run, forest}
-use Rattle.meaning.proofs.Codes.{both, kind_range}
+use Rattle.meaning.proofs.Codes.{both}
 use Rattle.meaning.proofs.Headers.{header_from}
 use Rattle.meaning.proofs.Exact.{depth}
 
 -- n levels are enough for siblings of the kind asked for, at level l
-abbrev pub EnoughFor : Option ℕ → ℕ → ℕ → Type 0
+abbrev pub EnoughFor : Option Kind → ℕ → ℕ → Type 0
 EnoughFor none l n = (l ≤ 16) × (19 ≤ l + n)
-EnoughFor (some k) l n = (k ≤ 3) × (1 ≤ n) × (k ≤ n + 1)
+EnoughFor (some k) l n = (kind_number k ≤ 3) × (1 ≤ n) × (kind_number k ≤ n + 1)
 
 abbrev pub Enough : Place → ℕ → ℕ → Type 0
 Enough (rings o d) l n = 1 ≤ n
@@ -28,7 +30,7 @@ pub some_levels : (p : Place) (l n : ℕ) → Enough p l n → 1 ≤ n
 some_levels (rings o d) l n h = h
 some_levels (geometries a) l n h = go a.kind h
   where
-    go : (k : Option ℕ) → EnoughFor k l n → 1 ≤ n
+    go : (k : Option Kind) → EnoughFor k l n → 1 ≤ n
     go none h = omega arith
     go (some k) h = omega arith
 
@@ -36,46 +38,38 @@ pub enough_more : (p : Place) (l n : ℕ) → Enough p l n → Enough p l (suc n
 enough_more (rings o d) l n h = omega arith
 enough_more (geometries a) l n h = go a.kind h
   where
-    go : (k : Option ℕ) → EnoughFor k l n → EnoughFor k l (suc n)
+    go : (k : Option Kind) → EnoughFor k l n → EnoughFor k l (suc n)
     go none h = omega arith
     go (some k) h = omega arith
 
 -- what is enough inside a geometry of a kind, at what was enough for it
-inside_kind : (h : Header) (l n : ℕ) (t u : Bool) → eqb h.kind 3 ≡ t → (leb 4 h.kind && leb h.kind 6) ≡ u → 3 ≤ h.kind → h.kind ≤ 7 → 1 ≤ n → (4 ≤ h.kind → 2 ≤ n)
-    → (h.kind ≡ 7 → (suc l ≤ 16) × (19 ≤ suc l + n)) → Enough (inside h) (suc l) n
+inside_kind : (h : Header) (l n : ℕ) (k : Kind) → h.kind ≡ k → holds_coordinates k ≡ false → 1 ≤ n → (4 ≤ kind_number k → 2 ≤ n)
+    → (k ≡ GeometryCollection → (suc l ≤ 16) × (19 ≤ suc l + n)) → Enough (inside h) (suc l) n
 unfolding inside
-inside_kind h l n true u e f a b c d g = rw e c
-inside_kind h l n false true e f a b c d g =
-    let (f₁, f₂) = both (leb 4 h.kind) (leb h.kind 6) f in
-    let le = d (leb-true 4 h.kind f₁) in
-    let le' = leb-true h.kind 6 f₂ in
-    rw (e, f) (omega arith)
-inside_kind h l n false false e f a b c d g =
-    let no-polygon = eqb-false h.kind 3 e in
-    let four : 4 ≤ h.kind = omega arith in
-    let six : leb h.kind 6 ≡ false = rw (le-leb 4 h.kind four) at f in
-    let above = leb-false h.kind 6 six in
-    rw (e, f) (g (omega arith))
+inside_kind h l n Ring e a b c d = absurd (cc)
+inside_kind h l n Point e a b c d = absurd (cc)
+inside_kind h l n LineString e a b c d = absurd (cc)
+inside_kind h l n Polygon e a b c d = rw e b
+inside_kind h l n MultiPoint e a b c d = rw e (omega arith)
+inside_kind h l n MultiLineString e a b c d = rw e (omega arith)
+inside_kind h l n MultiPolygon e a b c d = rw e (omega arith)
+inside_kind h l n GeometryCollection e a b c d = rw e (d refl)
 
 -- a collection that is not too deep stands below level 16
-pub not_deep : (l : ℕ) (h : Header) → too_deep l (said h) ≡ false → h.kind ≡ 7 → l < 16
-not_deep l h e k = leb-false 16 l (rw (eq-eqb h.kind 7 k) at e)
+pub not_deep : (l : ℕ) (h : Header) → too_deep l (said h) ≡ false → h.kind ≡ GeometryCollection → l < 16
+not_deep l h e k = leb-false 16 l (rw k at e)
 
-pub enough_inside : (p : Place) (l n : ℕ) (h : Header) → Enough p l (suc n) → HeaderAt p l h → 3 ≤ h.kind → Enough (inside h) (suc l) n
-enough_inside (rings o d) l n h enough at k = let z : h.kind ≡ 0 = ap (λ (x : Header). x.kind) at in absurd (omega arith)
+pub enough_inside : (p : Place) (l n : ℕ) (h : Header) → Enough p l (suc n) → HeaderAt p l h → holds_coordinates h.kind ≡ false → Enough (inside h) (suc l) n
+enough_inside (rings o d) l n h enough at k = let z = ap (λ (x : Header). holds_coordinates x.kind) at in absurd (cc)
 enough_inside (geometries a) l n h enough at k =
     go a.kind enough (both (asked a.kind h.kind) (asked_dimension a.dimension h.dimension) at.fitting).0
   where
-    seven : h.kind ≤ 7
-    seven = (kind_range h.code (said h) at.says).1
-
-    go : (q : Option ℕ) → EnoughFor q l (suc n) → asked q h.kind ≡ true → Enough (inside h) (suc l) n
-    go none e f =
-        inside_kind h l n (eqb h.kind 3) (leb 4 h.kind && leb h.kind 6) refl refl k seven (omega arith) (λ _. omega arith)
-        (λ i. let lt = not_deep l h at.shallow i in omega arith)
+    go : (q : Option Kind) → EnoughFor q l (suc n) → asked q h.kind ≡ true → Enough (inside h) (suc l) n
+    go none e f = inside_kind h l n h.kind refl k (omega arith) (λ _. omega arith) (λ i. let lt = not_deep l h at.shallow i in omega arith)
     go (some j) e f =
-        let i = eqb-true h.kind j f in
-        inside_kind h l n (eqb h.kind 3) (leb 4 h.kind && leb h.kind 6) refl refl k seven (omega arith) (λ m. omega arith) (λ m. omega arith)
+        let i = eqb-true (kind_number h.kind) (kind_number j) f in
+        let three = leb-false (kind_number h.kind) 2 k in
+        inside_kind h l n h.kind refl k (omega arith) (λ m. omega arith) (λ m. let seven = ap kind_number m in omega arith)
 
 no_children : (t : Forest) → siblings t ≡ 0 → depth t ≡ 0
 unfolding siblings depth
@@ -88,15 +82,12 @@ depth_enough empty p l n g e = omega arith
 depth_enough (first h cs kids rest) p l zero g e = let one = some_levels p l 0 e in absurd (omega arith)
 depth_enough (first h cs kids rest) p l (suc n) g e =
     let r = depth_enough rest p l (suc n) g.3 e in
-    let c : depth kids ≤ n = go (leb 3 h.kind) refl (λ k. depth_enough kids (inside h) (suc l) n g.2 (enough_inside p l n h e g.0 k)) in
+    let c : depth kids ≤ n = go (holds_coordinates h.kind) refl (λ k. depth_enough kids (inside h) (suc l) n g.2 (enough_inside p l n h e g.0 k)) in
     omega arith
   where
-    go : (t : Bool) → leb 3 h.kind ≡ t → (3 ≤ h.kind → depth kids ≤ n) → depth kids ≤ n
-    go true i k = k (leb-true 3 h.kind i)
-    go false i k =
-        let lt = leb-false 3 h.kind i in
-        let z = no_children kids (g.1.childless (omega arith)) in
-        omega arith
+    go : (t : Bool) → holds_coordinates h.kind ≡ t → (holds_coordinates h.kind ≡ false → depth kids ≤ n) → depth kids ≤ n
+    go true i k = let z = no_children kids (g.1.childless i) in omega arith
+    go false i k = k i
 
 pub nineteen_levels : (t : Forest) → Geometry t → depth t ≤ 19
 nineteen_levels t g = depth_enough t outermost 0 19 g.well_formed (omega arith)
@@ -126,20 +117,19 @@ module _ (b : List ℕ) (all : Bytes b) where
   forest_same (suc d) (suc e) (suc n) p l at g k =
       after_same (header b p l at) _ _ (λ h h₁.
       after_same (count_of b h.0 h.1) _ _ (λ c c₁.
-      after_same (run b h.0 (cond (leb h.0.kind 2) c.0 0) c.1) _ _ (λ cs cs₁.
+      after_same (run b h.0 (cond (holds_coordinates h.0.kind) c.0 0) c.1) _ _ (λ cs cs₁.
       after_both _ _ _ _
-      (go (leb 3 h.0.kind) h.0 c.0 cs.1 refl (λ i m. forest_same d e m (inside h.0) (suc l) cs.1 (inner d g h h₁ i) (inner e k h h₁ i)))
+      (go (holds_coordinates h.0.kind) h.0 c.0 cs.1 refl (λ i m. forest_same d e m (inside h.0) (suc l) cs.1 (inner d g h h₁ i) (inner e k h h₁ i)))
       (λ kids. after_both _ _ _ _ (forest_same (suc d) (suc e) n p l kids.1 g k) (λ rest. refl)))))
     where
-      inner : (m : ℕ) → Enough p l (suc m) → (h : Header × ℕ) → header b p l at ≡ answered h → 3 ≤ h.0.kind → Enough (inside h.0) (suc l) m
+      inner : (m : ℕ) → Enough p l (suc m) → (h : Header × ℕ) → header b p l at ≡ answered h → holds_coordinates h.0.kind ≡ false → Enough (inside h.0) (suc l) m
       inner m f h h₁ i = enough_inside p l m h.0 f (header_from b all p l at h h₁).0 i
 
-      go : (t : Bool) (h : Header) (c at' : ℕ) → leb 3 h.kind ≡ t → (3 ≤ h.kind → (m : ℕ) → forest b d m (inside h) (suc l) at' ≡ forest b e m (inside h) (suc l) at')
-          → forest b d (cond (leb h.kind 2) 0 c) (inside h) (suc l) at' ≡ forest b e (cond (leb h.kind 2) 0 c) (inside h) (suc l) at'
-      go true h c at' i f = f (leb-true 3 h.kind i) (cond (leb h.kind 2) 0 c)
-      go false h c at' i f =
-          let lt = leb-false 3 h.kind i in
-          rw (le-leb h.kind 2 (omega arith)) (none_to_read d e (inside h) (suc l) at')
+      go : (t : Bool) (h : Header) (c at' : ℕ) → holds_coordinates h.kind ≡ t
+          → (holds_coordinates h.kind ≡ false → (m : ℕ) → forest b d m (inside h) (suc l) at' ≡ forest b e m (inside h) (suc l) at')
+          → forest b d (cond (holds_coordinates h.kind) 0 c) (inside h) (suc l) at' ≡ forest b e (cond (holds_coordinates h.kind) 0 c) (inside h) (suc l) at'
+      go true h c at' i f = rw i (none_to_read d e (inside h) (suc l) at')
+      go false h c at' i f = f i (cond (holds_coordinates h.kind) 0 c)
 
   pub deeper_same : (d : ℕ) → 19 ≤ d → forest b d 1 outermost 0 0 ≡ forest b 19 1 outermost 0 0
   deeper_same d h = forest_same d 19 1 outermost 0 0 (omega arith) (omega arith)

@@ -6,10 +6,8 @@ use mathlib.Core.Bool.{Bool, true, false}
 use mathlib.Core.Option.{some}
 use mathlib.Core.List.{List, [], ◌∷◌, ◌++◌, append_assoc, flat_map}
 use lib.ListN.{length, drop, get_elem?}
-use lib.Dec.{leb}
-use borrow.Author.Tests.{leb-true, leb-false}
 use Rattle.meaning.specs.declared.RowFields.{RowFields}
-use Rattle.meaning.specs.Grammar.{Header, Ordinates, Forest, empty, first, Node, nodes, bytes, front, count, ordinate_bytes, Place, inside, Body, WellFormed}
+use Rattle.meaning.specs.Grammar.{Header, Ordinates, Forest, empty, first, Node, nodes, bytes, front, holds_coordinates, count, ordinate_bytes, Place, inside, Body, WellFormed}
 use Rattle.meaning.specs.Table.{row_of, rows}
 use Rattle.meaning.proofs.Lists.{none_left}
 use Rattle.meaning.proofs.Fields.{behind}
@@ -49,11 +47,11 @@ module _ (b : List ℕ) where
   kids_listed : (h : Header) (cs : List Ordinates) (kids : Forest) (l at : ℕ) (s : List ℕ) → Body h cs kids → drop at b ≡ ordinate_bytes h.order cs ++ s
       → (drop at b ≡ s → Pairs (Lists b) (nodes kids) (rows at l kids)) → Pairs (Lists b) (nodes kids) (rows at l kids)
   unfolding nodes rows flat_map
-  kids_listed h cs kids l at s g e k = go (leb h.kind 2) refl
+  kids_listed h cs kids l at s g e k = go (holds_coordinates h.kind) refl
     where
-      go : (u : Bool) → leb h.kind 2 ≡ u → Pairs (Lists b) (nodes kids) (rows at l kids)
-      go true c = subst (λ (x : Forest). Pairs (Lists b) (nodes x) (rows at l x)) (sym (no_siblings kids (g.childless (leb-true h.kind 2 c)))) tt
-      go false c = k (e ∙ ap (λ (x : List Ordinates). ordinate_bytes h.order x ++ s) (none_left cs (g.bare (leb-false h.kind 2 c))))
+      go : (u : Bool) → holds_coordinates h.kind ≡ u → Pairs (Lists b) (nodes kids) (rows at l kids)
+      go true c = subst (λ (x : Forest). Pairs (Lists b) (nodes x) (rows at l x)) (sym (no_siblings kids (g.childless c))) tt
+      go false c = k (e ∙ ap (λ (x : List Ordinates). ordinate_bytes h.order x ++ s) (none_left cs (g.bare c)))
 
   pub nodes_listed : (t : Forest) (p : Place) (l at : ℕ) (s : List ℕ) → WellFormed p l t → drop at b ≡ bytes t ++ s → Pairs (Lists b) (nodes t) (rows at l t)
   unfolding nodes rows bytes

@@ -2,19 +2,17 @@
 use Prim.Native.Nat.{ℕ, ◌-◌}
 use mathlib.Core.Path.{◌≡◌, refl, sym, ap, ◌∙◌}
 use mathlib.Core.List.{[], ◌∷◌}
-use mathlib.Core.Option.{none, some}
+use mathlib.Core.Option.{Option, none, some}
 use lib.ListN.{get_or}
+use Rattle.std.specs.Prelude.{Result, Ok, Err, Option as CodeOption, Some, None}
+use Rattle.meaning.specs.declared.Row.{Row}
+use Rattle.meaning.specs.declared.Prefix.{Prefix}
+use Rattle.meaning.specs.declared.Coordinate.{Coordinate}
+use Rattle.meaning.specs.declared.Form.{Form}
 use Rattle.meaning.specs.declared.Refusal.{Refusal}
 use Rattle.meaning.specs.declared.Refusal.TheVariants.{TooLong, PastEnd, ByteOrder, TypeCode, WrongChild, ChildSrid, TooDeep, TooFewRows, Unsound, NotThere, OutputTooShort}
-use Rattle.meaning.specs.declared.TypeAnswer.{TypeAnswer}
-use Rattle.meaning.specs.declared.ReadAnswer.{ReadAnswer}
-use Rattle.meaning.specs.declared.OrdinateAnswer.{OrdinateAnswer}
-use Rattle.meaning.specs.declared.CoordinateAnswer.{CoordinateAnswer}
-use Rattle.meaning.specs.declared.FormAnswer.{FormAnswer}
-use Rattle.meaning.specs.declared.ChildAnswer.{ChildAnswer}
-use Rattle.meaning.specs.declared.SridAnswer.{SridAnswer}
-use Rattle.meaning.specs.declared.WriteAnswer.{WriteAnswer}
-use Rattle.meaning.specs.Answer.{Answer, refused, answered, numbered, type_meant, read_meant, ordinate_meant, coordinate_meant, form_meant, child_meant, srid_meant, write_meant}
+use Rattle.meaning.specs.declared.WkbType.{WkbType}
+use Rattle.meaning.specs.Answer.{Answer, refused, answered, numbered, option_meant, meant, type_meant, read_meant, ordinate_meant, coordinate_meant, form_meant, child_meant, srid_meant, write_meant}
 
 -- the refusal of a number and place
 which : ℕ → ℕ → Refusal
@@ -41,49 +39,48 @@ which_numbered (Unsound r) = refl
 which_numbered (NotThere n) = refl
 which_numbered (OutputTooShort n) = refl
 
--- back from what an answer means
-abbrev back_to : {A R : Type 0} → (A → R) → (Refusal → R) → Answer A → R
-back_to good bad (refused n p) = bad (which n p)
-back_to good bad (answered x) = good x
-
 -- two answers of one meaning, where the meaning can be taken back
 one : {A B : Type 0} (meant : A → B) (back : B → A) → ((a : A) → back (meant a) ≡ a) → (a b : A) → meant a ≡ meant b → a ≡ b
 one meant back h a b e = sym (h a) ∙ ap back e ∙ h b
 
-pub one_type : (a b : TypeAnswer) → type_meant a ≡ type_meant b → a ≡ b
-one_type = one type_meant (elim [ none ↦ TypeAnswer.NotAllowed | some t ↦ TypeAnswer.Known t ]) (elim [ TypeAnswer.Known t ↦ refl | TypeAnswer.NotAllowed ↦ refl ])
+-- back from what an option means
+abbrev back_option : {A : Type 0} → Option A → CodeOption A
+back_option none = None
+back_option (some x) = Some x
 
-pub one_read : (a b : ReadAnswer) → read_meant a ≡ read_meant b → a ≡ b
-one_read =
-    one read_meant (back_to (λ x. ReadAnswer.Accepted x.0 x.1) ReadAnswer.Refused)
-    (elim [ ReadAnswer.Accepted n r ↦ refl | ReadAnswer.Refused x ↦ ap ReadAnswer.Refused (which_numbered x) ])
+back_back : {A : Type 0} (a : CodeOption A) → back_option (option_meant a) ≡ a
+back_back None = refl
+back_back (Some x) = refl
 
-pub one_ordinate : (a b : OrdinateAnswer) → ordinate_meant a ≡ ordinate_meant b → a ≡ b
-one_ordinate =
-    one ordinate_meant (back_to OrdinateAnswer.Bits OrdinateAnswer.Refused)
-    (elim [ OrdinateAnswer.Bits x ↦ refl | OrdinateAnswer.Refused x ↦ ap OrdinateAnswer.Refused (which_numbered x) ])
+pub one_type : (a b : CodeOption WkbType) → type_meant a ≡ type_meant b → a ≡ b
+one_type = one option_meant back_option back_back
 
-pub one_coordinate : (a b : CoordinateAnswer) → coordinate_meant a ≡ coordinate_meant b → a ≡ b
-one_coordinate =
-    one coordinate_meant (back_to CoordinateAnswer.At CoordinateAnswer.Refused)
-    (elim [ CoordinateAnswer.At x ↦ refl | CoordinateAnswer.Refused x ↦ ap CoordinateAnswer.Refused (which_numbered x) ])
+-- back from what an answer means
+abbrev back_to : {A B : Type 0} → (B → A) → Answer B → Result A Refusal
+back_to good (refused n p) = Err (which n p)
+back_to good (answered x) = Ok (good x)
 
-pub one_form : (a b : FormAnswer) → form_meant a ≡ form_meant b → a ≡ b
-one_form =
-    one form_meant (back_to (λ x. FormAnswer.Form x.0 x.1) FormAnswer.Refused)
-    (elim [ FormAnswer.Form o n ↦ refl | FormAnswer.Refused x ↦ ap FormAnswer.Refused (which_numbered x) ])
+-- two answers of one meaning, where their values can be taken back
+one_meant : {A B : Type 0} (good : A → B) (back : B → A) → ((a : A) → back (good a) ≡ a) → (a b : Result A Refusal) → meant good a ≡ meant good b → a ≡ b
+one_meant good back h = one (meant good) (back_to back) (elim [ Ok a ↦ ap Ok (h a) | Err x ↦ ap Err (which_numbered x) ])
 
-pub one_child : (a b : ChildAnswer) → child_meant a ≡ child_meant b → a ≡ b
-one_child =
-    one child_meant (back_to (λ x. ChildAnswer.Child (record { 0 = x })) ChildAnswer.Refused)
-    (elim [ ChildAnswer.Child r ↦ refl | ChildAnswer.Refused x ↦ ap ChildAnswer.Refused (which_numbered x) ])
+pub one_read : (a b : Result Prefix Refusal) → read_meant a ≡ read_meant b → a ≡ b
+one_read = one_meant (λ a. (a.length, a.rows)) (λ x. record { length = x.0; rows = x.1 }) (λ a. refl)
 
-pub one_srid : (a b : SridAnswer) → srid_meant a ≡ srid_meant b → a ≡ b
-one_srid =
-    one srid_meant (back_to (elim [ none ↦ SridAnswer.NoSrid | some s ↦ SridAnswer.Srid s ]) SridAnswer.Refused)
-    (elim [ SridAnswer.NoSrid ↦ refl | SridAnswer.Srid s ↦ refl | SridAnswer.Refused x ↦ ap SridAnswer.Refused (which_numbered x) ])
+pub one_ordinate : (a b : Result ℕ Refusal) → ordinate_meant a ≡ ordinate_meant b → a ≡ b
+one_ordinate = one_meant (λ x. x) (λ x. x) (λ x. refl)
 
-pub one_write : (a b : WriteAnswer) → write_meant a ≡ write_meant b → a ≡ b
-one_write =
-    one write_meant (back_to WriteAnswer.Written WriteAnswer.Refused)
-    (elim [ WriteAnswer.Written n ↦ refl | WriteAnswer.Refused x ↦ ap WriteAnswer.Refused (which_numbered x) ])
+pub one_coordinate : (a b : Result Coordinate Refusal) → coordinate_meant a ≡ coordinate_meant b → a ≡ b
+one_coordinate = one_meant (λ c. c) (λ c. c) (λ c. refl)
+
+pub one_form : (a b : Result Form Refusal) → form_meant a ≡ form_meant b → a ≡ b
+one_form = one_meant (λ f. (f.order, f.count)) (λ x. record { order = x.0; count = x.1 }) (λ f. refl)
+
+pub one_child : (a b : Result Row Refusal) → child_meant a ≡ child_meant b → a ≡ b
+one_child = one_meant (λ r. r.0) (λ n. record { 0 = n }) (λ r. refl)
+
+pub one_srid : (a b : Result (CodeOption ℕ) Refusal) → srid_meant a ≡ srid_meant b → a ≡ b
+one_srid = one_meant option_meant back_option back_back
+
+pub one_write : (a b : Result ℕ Refusal) → write_meant a ≡ write_meant b → a ≡ b
+one_write = one_meant (λ n. n) (λ n. n) (λ n. refl)

@@ -9,7 +9,8 @@ use lib.Ieee.{is_nan as is_float_nan, of_bits, binary64}
 use lib.Ieee.Bits.{nan_bits_is, nan_bits_above}
 use borrow.Author.Tests.{ne_eqb, le-leb, lt-leb}
 use Rattle.meaning.specs.declared.Dimension.TheVariants.{Xym}
-use Rattle.meaning.specs.Code.{axes, dimension_of}
+use Rattle.meaning.specs.declared.Kind.TheVariants.{GeometryCollection}
+use Rattle.meaning.specs.Code.{axes, kind_number, kind_of, dimension_of}
 use Rattle.meaning.specs.Grammar.{Header, Ordinates, Forest, is_nan, geometries, inside}
 use Rattle.meaning.specs.Answer.{refused}
 use Rattle.meaning.specs.Table.{rows_in, row_of, rows_of, filled}
@@ -28,12 +29,12 @@ unfolding position
 third_is_m = (refl, refl)
 
 -- "Inside kinds 4 to 6 a child has the named kind and its parent's dimension. .. Only the outermost geometry may carry an SRID."
-pub inside_multi : (h : Header) → 4 ≤ h.kind → h.kind ≤ 6 → inside h ≡ geometries (record { kind = some (h.kind - 3); dimension = some h.dimension; srid = false })
+pub inside_multi : (h : Header) → 4 ≤ kind_number h.kind → kind_number h.kind ≤ 6 → inside h ≡ geometries (record { kind = some (kind_of (kind_number h.kind - 3)); dimension = some h.dimension; srid = false })
 unfolding inside
-inside_multi h le le' = rw (ne_eqb h.kind 3 (λ e. omega arith), le-leb 4 h.kind le, le-leb h.kind 6 le')
+inside_multi h le le' = rw (ne_eqb (kind_number h.kind) 3 (λ e. omega arith), le-leb 4 (kind_number h.kind) le, le-leb (kind_number h.kind) 6 le')
 
 -- "Inside kind 7 a child may have any dimension."
-pub inside_collection : (h : Header) → h.kind ≡ 7 → inside h ≡ geometries (record { kind = none; dimension = none; srid = false })
+pub inside_collection : (h : Header) → h.kind ≡ GeometryCollection → inside h ≡ geometries (record { kind = none; dimension = none; srid = false })
 unfolding inside
 inside_collection h e = rw e
 

@@ -6,10 +6,9 @@ use mathlib.Core.Path.{◌≡◌, refl, sym, ap, ap₂, ◌∙◌}
 use mathlib.Core.Bool.{cond}
 use mathlib.Core.List.{List, ◌∷◌, ◌++◌, append_assoc}
 use lib.ListN.{length, length-append}
-use lib.Dec.{leb}
 use Rattle.meaning.specs.declared.RowFields.{RowFields}
 use Rattle.meaning.specs.Number.{Bytes}
-use Rattle.meaning.specs.Grammar.{Header, Ordinates, Forest, empty, first, bytes, front, count, ordinate_bytes, Place, inside}
+use Rattle.meaning.specs.Grammar.{Header, Ordinates, Forest, empty, first, bytes, front, holds_coordinates, count, ordinate_bytes, Place, inside}
 use Rattle.meaning.specs.Answer.{Answer, refused, answered}
 use Rattle.meaning.specs.Reading.{Reader, after, give, header, count_of, run, forest}
 use Rattle.meaning.specs.Table.{rows_in, row_of, rows}
@@ -62,8 +61,8 @@ module _ (b : List ℕ) where
   abbrev pub body_of : ℕ → Header → ℕ → Reader Forest
   body_of d h l at =
       after (count_of b h at) (λ c at₁.
-      after (run b h (cond (leb h.kind 2) c 0) at₁) (λ cs at₂.
-      after (forest b d (cond (leb h.kind 2) 0 c) (inside h) (suc l) at₂) (λ kids. give (first h cs kids empty))))
+      after (run b h (cond (holds_coordinates h.kind) c 0) at₁) (λ cs at₂.
+      after (forest b d (cond (holds_coordinates h.kind) 0 c) (inside h) (suc l) at₂) (λ kids. give (first h cs kids empty))))
 
   pub one_read : (d : ℕ) (p : Place) (l at : ℕ) → forest b (suc d) 1 p l at ≡ after (header b p l at) (λ h. body_of d h l)
   unfolding forest
@@ -76,8 +75,8 @@ module _ (b : List ℕ) where
   more_read d n p l at =
       after_then (header b p l at) _ _ others (λ h.
       after_then (count_of b h.0 h.1) _ _ others (λ c.
-      after_then (run b h.0 (cond (leb h.0.kind 2) c.0 0) c.1) _ _ others (λ cs.
-      after_then (forest b d (cond (leb h.0.kind 2) 0 c.0) (inside h.0) (suc l) cs.1) _ _ others (λ kids. refl))))
+      after_then (run b h.0 (cond (holds_coordinates h.0.kind) c.0 0) c.1) _ _ others (λ cs.
+      after_then (forest b d (cond (holds_coordinates h.0.kind) 0 c.0) (inside h.0) (suc l) cs.1) _ _ others (λ kids. refl))))
     where
       others : Forest → Reader Forest
       others t at₁ = after (forest b (suc d) n p l at₁) (λ u. give (graft t u))

@@ -6,15 +6,17 @@ use mathlib.Core.Path.{◌≡◌, refl, sym, ap, subst, ◌∙◌}
 use mathlib.Core.Bool.{Bool, true, false, ◌&&◌, cond}
 use mathlib.Core.List.{List, [], ◌∷◌, ◌++◌, flat_map, append_assoc}
 use lib.ListN.{length, length-append}
-use lib.Dec.{leb, ltb, eqb}
-use borrow.Author.Tests.{le-leb, lt-ltb, ltb-true, ltb-false, eqb-true, eqb-false, leb-true, leb-false}
+use lib.Dec.{leb, ltb}
+use borrow.Author.Tests.{le-leb, lt-ltb, ltb-true, ltb-false, leb-true}
+use Rattle.meaning.specs.declared.Kind.TheVariants.{Point}
 use Rattle.meaning.specs.declared.RowFields.{RowFields}
 use Rattle.meaning.specs.Number.{Bytes}
-use Rattle.meaning.specs.Code.{size}
-use Rattle.meaning.specs.Grammar.{Header, Ordinates, Forest, empty, first, bytes, front, count, ordinate_bytes, Place, outermost, inside, Body, WellFormed}
+use Rattle.meaning.specs.Code.{size, same_kind}
+use Rattle.meaning.specs.Grammar.{Header, Ordinates, Forest, empty, first, bytes, front, holds_coordinates, count, ordinate_bytes, Place, outermost, inside, Body, WellFormed}
 use Rattle.meaning.specs.Answer.{answered}
 use Rattle.meaning.specs.Reading.{reading}
 use Rattle.meaning.specs.Table.{Span, spans, ordinate_size, row_of, rows}
+use Rattle.meaning.proofs.Codes.{same_kind-true, same_kind-false}
 use Rattle.meaning.proofs.Coordinates.{length_ordinate_bytes}
 use Rattle.meaning.proofs.Bodies.{count_wire}
 use Rattle.meaning.proofs.Accepted.{accepted_exactly, accepted_short, begins_length}
@@ -37,13 +39,13 @@ flat_append (x ∷ xs) ys = ap (λ (ss : List Span). spans x ++ ss) (flat_append
 module _ (h : Header) (cs : List Ordinates) (kids : Forest) (g : Body h cs kids) where
   ordinate_size_is : (at l : ℕ) → ordinate_size (row_of at l h cs kids) ≡ length (ordinate_bytes h.order cs)
   ordinate_size_is at l =
-      ap (λ (n : ℕ). 8 * size h.dimension * n) (go (leb h.kind 2) (eqb h.kind 1) refl refl)
+      ap (λ (n : ℕ). 8 * size h.dimension * n) (go (holds_coordinates h.kind) (same_kind h.kind Point) refl refl)
       ∙ sym (length_ordinate_bytes h.order (size h.dimension) cs g.ordinates)
     where
-      go : (t u : Bool) → leb h.kind 2 ≡ t → eqb h.kind 1 ≡ u → cond t (cond u 1 (count h cs kids)) 0 ≡ length cs
-      go true true e f = sym (g.one (eqb-true h.kind 1 f))
-      go true false e f = count_wire h cs kids (eqb-false h.kind 1 f) ∙ rw e
-      go false u e f = sym (g.bare (leb-false h.kind 2 e))
+      go : (t u : Bool) → holds_coordinates h.kind ≡ t → same_kind h.kind Point ≡ u → cond t (cond u 1 (count h cs kids)) 0 ≡ length cs
+      go true true e f = sym (g.one (same_kind-true h.kind Point f))
+      go true false e f = count_wire h cs kids (same_kind-false h.kind Point f) ∙ rw e
+      go false u e f = sym (g.bare e)
 
   -- one row's spans, up to behind its coordinates
   row_tiles : (at l : ℕ) → Tiles at (spans (row_of at l h cs kids)) ((row_of at l h cs kids).body.0 + length (ordinate_bytes h.order cs))
@@ -56,7 +58,7 @@ module _ (h : Header) (cs : List Ordinates) (kids : Forest) (g : Body h cs kids)
 kids_tile : (h : Header) (cs : List Ordinates) (kids : Forest) (body l : ℕ) → Body h cs kids → Tiles body (flat_map spans (rows body l kids)) (body + length (bytes kids))
     → Tiles (body + length (ordinate_bytes h.order cs)) (flat_map spans (rows body l kids)) (body + length (ordinate_bytes h.order cs) + length (bytes kids))
 unfolding rows bytes flat_map
-kids_tile h cs kids body l g t = go (leb h.kind 2) refl
+kids_tile h cs kids body l g t = go (holds_coordinates h.kind) refl
   where
     o : ℕ
     o = length (ordinate_bytes h.order cs)
@@ -67,10 +69,10 @@ kids_tile h cs kids body l g t = go (leb h.kind 2) refl
     bare : length cs ≡ 0 → o ≡ 0
     bare e = length_ordinate_bytes h.order (size h.dimension) cs g.ordinates ∙ ap (λ (n : ℕ). 8 * size h.dimension * n) e ∙ mul-zero (8 * size h.dimension)
 
-    go : (u : Bool) → leb h.kind 2 ≡ u → Tiles (body + o) (flat_map spans (rows body l kids)) (body + o + length (bytes kids))
-    go true e = leaf kids (no_siblings kids (g.childless (leb-true h.kind 2 e)))
+    go : (u : Bool) → holds_coordinates h.kind ≡ u → Tiles (body + o) (flat_map spans (rows body l kids)) (body + o + length (bytes kids))
+    go true e = leaf kids (no_siblings kids (g.childless e))
     go false e =
-        let z = bare (g.bare (leb-false h.kind 2 e)) in
+        let z = bare (g.bare e) in
         let i : body ≡ body + o = omega arith in
         subst (λ (n : ℕ). Tiles n (flat_map spans (rows body l kids)) (n + length (bytes kids))) i t
 

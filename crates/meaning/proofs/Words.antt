@@ -16,6 +16,7 @@ use Rattle.meaning.specs.Number.{order_byte}
 use Rattle.meaning.specs.Code.{dimension_number, dimension_of}
 use Rattle.meaning.specs.Reading.{order_of}
 use Rattle.meaning.specs.Table.{Field, sum, widths, values, pack, unpack, Fit, bit, fields_a, fields_b, word_a, word_b, fields_of, RowFits}
+use Rattle.meaning.proofs.Codes.{kind_back}
 
 room : (v w p s : ℕ) → v < 2 ^ w → p < 2 ^ s → v * 2 ^ s + p < 2 ^ (w + s)
 room v w p s h k =
@@ -56,7 +57,7 @@ bit_back false = refl
 -- taking a packed row apart gives its fields back
 pub row_back : (r : RowFields) → RowFits r → fields_of (word_a r) (word_b r) ≡ r
 row_back r h = rw (unpack_pack (fields_a r) h.0, unpack_pack (fields_b r) h.1) (λ i. record {
-  kind = r.kind;
+  kind = kind_back r.kind i;
   dimension = dimension_back r.dimension i;
   order = order_back r.order i;
   srid = bit_back r.srid i;

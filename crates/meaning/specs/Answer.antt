@@ -1,19 +1,14 @@
 -- Answers and refusals, and what each case of the code's answers is in the paper's numbers and values.
-use Rattle.std.specs.Prelude.{ℕ}
+use Rattle.std.specs.Prelude.{ℕ, Result, Ok, Err, Option as CodeOption, Some, None}
 use Rattle.std.proofs.Math.Option.{Option, none, some}
 use Rattle.meaning.specs.declared.Endianness.{Endianness}
+use Rattle.meaning.specs.declared.Row.{Row}
+use Rattle.meaning.specs.declared.Prefix.{Prefix}
 use Rattle.meaning.specs.declared.Coordinate.{Coordinate}
+use Rattle.meaning.specs.declared.Form.{Form}
 use Rattle.meaning.specs.declared.Refusal.{Refusal}
 use Rattle.meaning.specs.declared.Refusal.TheVariants.{TooLong, PastEnd, ByteOrder, TypeCode, WrongChild, ChildSrid, TooDeep, TooFewRows, Unsound, NotThere, OutputTooShort}
 use Rattle.meaning.specs.declared.WkbType.{WkbType}
-use Rattle.meaning.specs.declared.TypeAnswer.{TypeAnswer}
-use Rattle.meaning.specs.declared.ReadAnswer.{ReadAnswer}
-use Rattle.meaning.specs.declared.OrdinateAnswer.{OrdinateAnswer}
-use Rattle.meaning.specs.declared.CoordinateAnswer.{CoordinateAnswer}
-use Rattle.meaning.specs.declared.FormAnswer.{FormAnswer}
-use Rattle.meaning.specs.declared.ChildAnswer.{ChildAnswer}
-use Rattle.meaning.specs.declared.SridAnswer.{SridAnswer}
-use Rattle.meaning.specs.declared.WriteAnswer.{WriteAnswer}
 
 -- "Each refusal returns number and place"
 pub data Answer (A : Type 0) : Type 0 where
@@ -37,39 +32,40 @@ numbered (OutputTooShort n) = (11, n)
 abbrev pub refusal : {A : Type 0} → Refusal → Answer A
 refusal x = refused (numbered x).0 (numbered x).1
 
+-- an `Option` of the code
+abbrev pub option_meant : {A : Type 0} → CodeOption A → Option A
+option_meant None = none
+option_meant (Some x) = some x
+
 -- what a type code says, if it is allowed
-abbrev pub type_meant : TypeAnswer → Option WkbType
-type_meant (TypeAnswer.Known t) = some t
-type_meant TypeAnswer.NotAllowed = none
+abbrev pub type_meant : CodeOption WkbType → Option WkbType
+type_meant = option_meant
+
+-- an answer of the code, whose values are the paper's by `good`
+abbrev pub meant : {A B : Type 0} → (A → B) → Result A Refusal → Answer B
+meant good (Ok x) = answered (good x)
+meant good (Err x) = refusal x
 
 -- prefix length and rows
-abbrev pub read_meant : ReadAnswer → Answer (ℕ × ℕ)
-read_meant (ReadAnswer.Accepted n r) = answered (n, r)
-read_meant (ReadAnswer.Refused x) = refusal x
+abbrev pub read_meant : Result Prefix Refusal → Answer (ℕ × ℕ)
+read_meant = meant (λ a. (a.length, a.rows))
 
-abbrev pub ordinate_meant : OrdinateAnswer → Answer ℕ
-ordinate_meant (OrdinateAnswer.Bits x) = answered x
-ordinate_meant (OrdinateAnswer.Refused x) = refusal x
+abbrev pub ordinate_meant : Result ℕ Refusal → Answer ℕ
+ordinate_meant = meant (λ x. x)
 
-abbrev pub coordinate_meant : CoordinateAnswer → Answer Coordinate
-coordinate_meant (CoordinateAnswer.At c) = answered c
-coordinate_meant (CoordinateAnswer.Refused x) = refusal x
+abbrev pub coordinate_meant : Result Coordinate Refusal → Answer Coordinate
+coordinate_meant = meant (λ c. c)
 
 -- order and count
-abbrev pub form_meant : FormAnswer → Answer (Endianness × ℕ)
-form_meant (FormAnswer.Form o n) = answered (o, n)
-form_meant (FormAnswer.Refused x) = refusal x
+abbrev pub form_meant : Result Form Refusal → Answer (Endianness × ℕ)
+form_meant = meant (λ f. (f.order, f.count))
 
-abbrev pub child_meant : ChildAnswer → Answer ℕ
-child_meant (ChildAnswer.Child r) = answered r.0
-child_meant (ChildAnswer.Refused x) = refusal x
+abbrev pub child_meant : Result Row Refusal → Answer ℕ
+child_meant = meant (λ r. r.0)
 
-abbrev pub srid_meant : SridAnswer → Answer (Option ℕ)
-srid_meant SridAnswer.NoSrid = answered none
-srid_meant (SridAnswer.Srid s) = answered (some s)
-srid_meant (SridAnswer.Refused x) = refusal x
+abbrev pub srid_meant : Result (CodeOption ℕ) Refusal → Answer (Option ℕ)
+srid_meant = meant option_meant
 
 -- the length written
-abbrev pub write_meant : WriteAnswer → Answer ℕ
-write_meant (WriteAnswer.Written n) = answered n
-write_meant (WriteAnswer.Refused x) = refusal x
+abbrev pub write_meant : Result ℕ Refusal → Answer ℕ
+write_meant = meant (λ n. n)

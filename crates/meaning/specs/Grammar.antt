@@ -1,16 +1,18 @@
 -- Geometries, their bytes, and when they are well formed: the grammar, with no offsets and no refusals in it.
-use Rattle.std.specs.Prelude.{ℕ, suc, ◌-◌, ◌^◌, ◌%◌, ◌≤◌, ◌<◌, ◌≡◌, Bool, true, false, ◌&&◌, ◌||◌, not, cond, length, leb, ltb, eqb}
+use Rattle.std.specs.Prelude.{ℕ, suc, ◌-◌, ◌^◌, ◌%◌, ◌<◌, ◌≡◌, Bool, true, false, ◌&&◌, ◌||◌, not, cond, length, leb, ltb, eqb}
 use mathlib.Core.List.{List, [], ◌∷◌, ◌++◌, flat_map}
 use Rattle.std.proofs.Math.Option.{Option, none, some}
 use Rattle.meaning.specs.declared.Endianness.{Endianness}
 use Rattle.meaning.specs.declared.Dimension.{Dimension}
+use Rattle.meaning.specs.declared.Kind.{Kind}
+use Rattle.meaning.specs.declared.Kind.TheVariants.{Ring, Point, Polygon, GeometryCollection}
 use Rattle.meaning.specs.declared.WkbType.{WkbType}
 use Rattle.meaning.specs.Number.{Each, order_byte, bytes_of}
-use Rattle.meaning.specs.Code.{size, dimension_number, type_of}
+use Rattle.meaning.specs.Code.{size, kind_number, kind_of, same_kind, dimension_number, type_of}
 
--- what opens a geometry: kind (0 for a ring), dimension, byte order, type code (0 for a ring), SRID
+-- what opens a geometry: kind, dimension, byte order, type code (0 for a ring), SRID
 pub record Header : Type 0 where
-  pub kind : ℕ
+  pub kind : Kind
   pub dimension : Dimension
   pub order : Endianness
   pub code : ℕ
@@ -49,15 +51,15 @@ every p (x ∷ xs) = p x && every p xs
 
 -- "A Point whose ordinates are all NaN is empty. One number among them makes it a point."
 abbrev pub empty_point : Header → List Ordinates → Bool
-empty_point h cs = eqb h.kind 1 && every (every is_nan) cs
+empty_point h cs = same_kind h.kind Point && every (every is_nan) cs
 
 -- the coordinates that count: an empty Point has none
 abbrev pub shown : Header → List Ordinates → List Ordinates
 shown h cs = cond (empty_point h cs) [] cs
 
 -- kinds 0 to 2 hold coordinates, kinds 3 to 7 children
-abbrev pub holds_coordinates : ℕ → Bool
-holds_coordinates k = leb k 2
+abbrev pub holds_coordinates : Kind → Bool
+holds_coordinates k = leb (kind_number k) 2
 
 -- how many coordinates, rings or children. "A Point's count is 1, or 0 if empty."
 abbrev pub count : Header → List Ordinates → Forest → ℕ
@@ -67,7 +69,7 @@ count h cs kids = cond (holds_coordinates h.kind) (length (shown h cs)) (sibling
 
 -- "1. one order byte, 0 big or 1 little, governing this geometry's own numbers; 2. a 4-byte type code"; a ring has neither
 abbrev pub header_bytes : Header → List ℕ
-header_bytes h = cond (eqb h.kind 0) [] (order_byte h.order ∷ bytes_of h.order 4 h.code)
+header_bytes h = cond (same_kind h.kind Ring) [] (order_byte h.order ∷ bytes_of h.order 4 h.code)
 
 -- "3. four bytes of SRID, if the code has that flag"
 abbrev pub srid_bytes : Endianness → Option ℕ → List ℕ
@@ -76,7 +78,7 @@ srid_bytes o (some s) = bytes_of o 4 s
 
 -- "4. a body": "a 4-byte count", but none for a Point
 abbrev pub count_bytes : Header → ℕ → List ℕ
-count_bytes h n = cond (eqb h.kind 1) [] (bytes_of h.order 4 n)
+count_bytes h n = cond (same_kind h.kind Point) [] (bytes_of h.order 4 n)
 
 -- "that many coordinates"
 abbrev pub ordinate_bytes : Endianness → List Ordinates → List ℕ
@@ -94,7 +96,7 @@ bytes (first h cs kids rest) = front h (count h cs kids) ++ (ordinate_bytes h.or
 
 -- what a place asks of a geometry: a kind, a dimension, and whether it may carry an SRID
 pub record Asks : Type 0 where
-  pub kind : Option ℕ
+  pub kind : Option Kind
   pub dimension : Option Dimension
   pub srid : Bool
 
@@ -111,15 +113,15 @@ outermost = geometries (record { kind = none; dimension = none; srid = true })
 -- Inside kind 7 a child may have any dimension."
 unfoldable pub inside : Header → Place
 inside h =
-    cond (eqb h.kind 3)
+    cond (same_kind h.kind Polygon)
     (rings h.order h.dimension)
-    (cond (leb 4 h.kind && leb h.kind 6)
-    (geometries (record { kind = some (h.kind - 3); dimension = some h.dimension; srid = false }))
+    (cond (leb 4 (kind_number h.kind) && leb (kind_number h.kind) 6)
+    (geometries (record { kind = some (kind_of (kind_number h.kind - 3)); dimension = some h.dimension; srid = false }))
     (geometries (record { kind = none; dimension = none; srid = false })))
 
-abbrev pub asked : Option ℕ → ℕ → Bool
-asked none x = true
-asked (some k) x = eqb x k
+abbrev pub asked : Option Kind → Kind → Bool
+asked none j = true
+asked (some k) j = same_kind j k
 
 abbrev pub asked_dimension : Option Dimension → Dimension → Bool
 asked_dimension none d = true
@@ -133,7 +135,7 @@ srid_fits a t = a.srid || not t.srid
 
 -- "A collection at level 16 or more is refused, empty or not."
 abbrev pub too_deep : ℕ → WkbType → Bool
-too_deep l t = eqb t.kind 7 && leb 16 l
+too_deep l t = same_kind t.kind GeometryCollection && leb 16 l
 
 abbrev pub is_some : {A : Type 0} → Option A → Bool
 is_some none = false
@@ -158,7 +160,7 @@ pub record GeometryHeader (a : Asks) (l : ℕ) (h : Header) : Type 0 where
 
 -- "A ring has its polygon's order and dimension"
 abbrev pub ring_header : Endianness → Dimension → Header
-ring_header o d = record { kind = 0; dimension = d; order = o; code = 0; srid = none }
+ring_header o d = record { kind = Ring; dimension = d; order = o; code = 0; srid = none }
 
 abbrev pub HeaderAt : Place → ℕ → Header → Type 0
 HeaderAt (rings o d) l h = h ≡ ring_header o d
@@ -170,9 +172,9 @@ OrdinatesOf d xs = (length xs ≡ size d) × Each (λ x. x < 2 ^ 64) xs
 
 -- "Point (1), one coordinate"; kinds 0 to 2 have no children, kinds 3 to 7 no coordinates; the count has four bytes
 pub record Body (h : Header) (cs : List Ordinates) (kids : Forest) : Type 0 where
-  pub one : h.kind ≡ 1 → length cs ≡ 1
-  pub childless : h.kind ≤ 2 → siblings kids ≡ 0
-  pub bare : 3 ≤ h.kind → length cs ≡ 0
+  pub one : h.kind ≡ Point → length cs ≡ 1
+  pub childless : holds_coordinates h.kind ≡ true → siblings kids ≡ 0
+  pub bare : holds_coordinates h.kind ≡ false → length cs ≡ 0
   pub ordinates : Each (OrdinatesOf h.dimension) cs
   pub four : count h cs kids < 2 ^ 32
 

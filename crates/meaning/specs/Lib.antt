@@ -6,3 +6,4 @@ pub mod Reading
 pub mod Table
 pub mod Questions
 pub mod Writer
+pub mod Printed

@@ -7,7 +7,7 @@ use Rattle.meaning.specs.declared.Endianness.{Endianness}
 use Rattle.meaning.specs.declared.RowFields.{RowFields}
 use Rattle.meaning.specs.declared.Coordinate.{Coordinate}
 use Rattle.meaning.specs.Number.{number_at}
-use Rattle.meaning.specs.Code.{axes, size}
+use Rattle.meaning.specs.Code.{axes, size, kind_number}
 use Rattle.meaning.specs.Grammar.{Forest, holds_coordinates}
 use Rattle.meaning.specs.Answer.{Answer, refused, answered}
 use Rattle.meaning.specs.Reading.{reading}
@@ -114,7 +114,7 @@ steps t r (suc n) q = do
 -- "9 if the row isn't in the table or its kind isn't 3 to 7; 10 if index ≥ count. Then from row + 1"
 abbrev pub child : List ℕ → ℕ → ℕ → Answer ℕ
 child t r i = do
-  guard (ltb r (rows_of t) && leb 3 (fetch t r).kind) 9 r
+  guard (ltb r (rows_of t) && leb 3 (kind_number (fetch t r).kind)) 9 r
   guard (ltb i (fetch t r).count) 10 i
   steps t r i (r + 1)
 

@@ -1,11 +1,12 @@
 -- Reading: bytes to a geometry and the prefix's length, or a refusal. The order of the lines is the order of the tests.
-use Rattle.std.specs.Prelude.{ℕ, zero, suc, ◌+◌, ◌*◌, ◌-◌, List, [], ◌∷◌, map, Bool, true, false, not, cond, length, take, drop, leb, eqb}
+use Rattle.std.specs.Prelude.{ℕ, zero, suc, ◌+◌, ◌*◌, ◌-◌, List, [], ◌∷◌, map, Bool, true, false, not, cond, length, take, drop, leb}
 use Rattle.std.proofs.Math.Option.{Option, none, some}
 use Rattle.meaning.specs.declared.Endianness.{Endianness}
 use Rattle.meaning.specs.declared.Endianness.TheVariants.{BigEndian, LittleEndian}
+use Rattle.meaning.specs.declared.Kind.TheVariants.{Point}
 use Rattle.meaning.specs.declared.WkbType.{WkbType}
 use Rattle.meaning.specs.Number.{number}
-use Rattle.meaning.specs.Code.{size, type_of}
+use Rattle.meaning.specs.Code.{size, same_kind, type_of}
 use Rattle.meaning.specs.Grammar.{Header, Ordinates, Forest, empty, first, Place, rings, geometries, outermost, inside, ring_header, fits, srid_fits, too_deep, holds_coordinates}
 use Rattle.meaning.specs.Answer.{Answer, refused, answered}
 
@@ -93,7 +94,7 @@ module _ (b : List ℕ) where
 
   -- "2 for the count"; a Point has none, and one coordinate
   abbrev pub count_of : Header → Reader ℕ
-  count_of h = cond (eqb h.kind 1) (give 1) (num h.order 4)
+  count_of h = cond (same_kind h.kind Point) (give 1) (num h.order 4)
 
   -- "2 for .. a Point's ordinates", or another coordinate run, tested whole
   abbrev pub run : Header → ℕ → Reader (List Ordinates)

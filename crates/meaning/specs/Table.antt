@@ -1,9 +1,10 @@
 -- The table: rows of a geometry, their two words, and what the reader leaves in a table.
 use Rattle.std.specs.Prelude.{ℕ, suc, ◌+◌, ◌*◌, ◌/◌, ◌%◌, ◌^◌, ◌<◌, List, [], ◌∷◌, ◌++◌, map, Bool, true, false, cond, length, drop, get_or, leb, eqb}
+use Rattle.meaning.specs.declared.Kind.TheVariants.{Ring, Point}
 use Rattle.meaning.specs.declared.RowFields.{RowFields}
 use Rattle.meaning.specs.declared.Offset.{Offset}
 use Rattle.meaning.specs.Number.{Each, order_byte}
-use Rattle.meaning.specs.Code.{size, dimension_number, dimension_of}
+use Rattle.meaning.specs.Code.{size, kind_number, kind_of, same_kind, dimension_number, dimension_of}
 use Rattle.meaning.specs.Grammar.{Header, Ordinates, Forest, empty, first, front, bytes, ordinate_bytes, holds_coordinates, count, is_some}
 use Rattle.meaning.specs.Answer.{Answer, refused, answered}
 use Rattle.meaning.specs.Reading.{order_of, reading}
@@ -49,13 +50,13 @@ Span = ℕ × ℕ
 
 -- A Point's ordinates stand there also if it is empty, though its count is then 0.
 abbrev pub ordinate_size : RowFields → ℕ
-ordinate_size r = 8 * size r.dimension * cond (holds_coordinates r.kind) (cond (eqb r.kind 1) 1 r.count) 0
+ordinate_size r = 8 * size r.dimension * cond (holds_coordinates r.kind) (cond (same_kind r.kind Point) 1 r.count) 0
 
 abbrev pub spans : RowFields → List Span
 spans r =
-    let header : ℕ = cond (eqb r.kind 0) 0 5 in
+    let header : ℕ = cond (same_kind r.kind Ring) 0 5 in
     let srid : ℕ = cond r.srid 4 0 in
-    (r.start.0, header) ∷ (r.start.0 + header, srid) ∷ (r.start.0 + header + srid, cond (eqb r.kind 1) 0 4) ∷ (r.body.0, ordinate_size r) ∷ []
+    (r.start.0, header) ∷ (r.start.0 + header, srid) ∷ (r.start.0 + header + srid, cond (same_kind r.kind Point) 0 4) ∷ (r.body.0, ordinate_size r) ∷ []
 
 -- ---- "A row is two 64-bit words, most significant field first."
 
@@ -92,7 +93,7 @@ bit false = 0
 -- "Word A: kind 3 bits (0 ring), dimension 2 (0 to 3 as k above), order 1 (1 little), SRID flag 1, level 6, zero 11, start 20, end 20."
 abbrev pub fields_a : RowFields → List Field
 fields_a r =
-    (3, r.kind) ∷ (2, dimension_number r.dimension) ∷ (1, order_byte r.order) ∷ (1, bit r.srid) ∷ (6, r.level) ∷ (11, 0) ∷ (20, r.start.0)
+    (3, kind_number r.kind) ∷ (2, dimension_number r.dimension) ∷ (1, order_byte r.order) ∷ (1, bit r.srid) ∷ (6, r.level) ∷ (11, 0) ∷ (20, r.start.0)
     ∷ (20, r.end.0) ∷ []
 
 -- "Word B: count 20, rows in this subtree including itself 20, body start 20, zero 4."
@@ -114,7 +115,7 @@ fields_of a b =
     let x = unpack (3 ∷ 2 ∷ 1 ∷ 1 ∷ 6 ∷ 11 ∷ 20 ∷ 20 ∷ []) a in
     let y = unpack (20 ∷ 20 ∷ 20 ∷ 4 ∷ []) b in
     record {
-      kind = get_or x 0 0;
+      kind = kind_of (get_or x 0 0);
       dimension = dimension_of (get_or x 1 0);
       order = order_of (get_or x 2 0);
       srid = eqb (get_or x 3 0) 1;

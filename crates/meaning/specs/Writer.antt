@@ -1,8 +1,9 @@
 -- The ISO form of a geometry, what the writer answers and leaves in the output, and 'same geometry'.
-use Rattle.std.specs.Prelude.{ℕ, ◌≡◌, List, [], ◌∷◌, ◌++◌, cond, length, drop, replicate, leb, eqb}
+use Rattle.std.specs.Prelude.{ℕ, ◌≡◌, List, [], ◌∷◌, ◌++◌, cond, length, drop, replicate, leb}
 use Rattle.std.proofs.Math.Option.{none}
 use Rattle.meaning.specs.declared.Endianness.{Endianness}
-use Rattle.meaning.specs.Code.{size, iso_code}
+use Rattle.meaning.specs.declared.Kind.TheVariants.{Ring}
+use Rattle.meaning.specs.Code.{size, same_kind, iso_code}
 use Rattle.meaning.specs.Grammar.{Header, Ordinates, Forest, empty, first, empty_point, shown, bytes}
 use Rattle.meaning.specs.Answer.{Answer, refused, answered}
 use Rattle.meaning.specs.Reading.{reading}
@@ -14,7 +15,7 @@ iso_header o h = record {
   kind = h.kind;
   dimension = h.dimension;
   order = o;
-  code = cond (eqb h.kind 0) 0 (iso_code h.kind h.dimension);
+  code = cond (same_kind h.kind Ring) 0 (iso_code h.kind h.dimension);
   srid = none;
 }
 

@@ -1,14 +1,17 @@
 // The types that callers see. What each answer means in the paper's numbers is given in specs/Answer.antt.
 #![tactic(auto)]
 
+use std::error::Error;
+use std::fmt;
+
 // The byte that opens a geometry: 0 big, 1 little.
-#[derive(Clone, Copy)]
+#[derive(Clone, Copy, Debug, PartialEq, Eq, Hash)]
 pub enum Endianness {
     BigEndian,
     LittleEndian,
 }
 
-#[derive(Clone, Copy)]
+#[derive(Clone, Copy, Debug, PartialEq, Eq, Hash)]
 pub enum Dimension {
     Xy,
     Xyz,
@@ -16,32 +19,75 @@ pub enum Dimension {
     Xyzm,
 }
 
-// What a type code says: kind 1 to 7, dimension, and whether an SRID follows.
-#[derive(Clone, Copy)]
+impl fmt::Display for Dimension {
+    ghost use Rattle.std.specs.Prelude.{Some};
+    ghost use Rattle.meaning.specs.Printed.{dimension_name};
+
+    ghost output = { λ d. Some (dimension_name d) };
+
+    fn fmt<W: fmt::Write>(&self, f: &mut fmt::Formatter<W>) -> fmt::Result {
+        f.write_str(match self {
+            Dimension::Xy => "Xy",
+            Dimension::Xyz => "Xyz",
+            Dimension::Xym => "Xym",
+            Dimension::Xyzm => "Xyzm",
+        })
+    }
+}
+
+// Kinds 0 to 7; a ring has no code of its own.
+#[derive(Clone, Copy, Debug, PartialEq, Eq, Hash)]
+pub enum Kind {
+    Ring,
+    Point,
+    LineString,
+    Polygon,
+    MultiPoint,
+    MultiLineString,
+    MultiPolygon,
+    GeometryCollection,
+}
+
+impl fmt::Display for Kind {
+    ghost use Rattle.std.specs.Prelude.{Some};
+    ghost use Rattle.meaning.specs.Printed.{kind_name};
+
+    ghost output = { λ k. Some (kind_name k) };
+
+    fn fmt<W: fmt::Write>(&self, f: &mut fmt::Formatter<W>) -> fmt::Result {
+        f.write_str(match self {
+            Kind::Ring => "Ring",
+            Kind::Point => "Point",
+            Kind::LineString => "LineString",
+            Kind::Polygon => "Polygon",
+            Kind::MultiPoint => "MultiPoint",
+            Kind::MultiLineString => "MultiLineString",
+            Kind::MultiPolygon => "MultiPolygon",
+            Kind::GeometryCollection => "GeometryCollection",
+        })
+    }
+}
+
+// What a type code says: a kind, which is no ring, a dimension, and whether an SRID follows.
+#[derive(Clone, Copy, Debug, PartialEq, Eq, Hash)]
 pub struct WkbType {
-    pub kind: usize,
+    pub kind: Kind,
     pub dimension: Dimension,
     pub srid: bool,
 }
 
-#[derive(Clone, Copy)]
-pub enum TypeAnswer {
-    Known(WkbType),
-    NotAllowed,
-}
-
 // The number of a row of the table. Not an offset: each has its own type, so that neither is taken for the other.
-#[derive(Clone, Copy)]
+#[derive(Clone, Copy, Debug, PartialEq, Eq, PartialOrd, Ord, Hash)]
 pub struct Row(pub usize);
 
 // The place of a byte in the buffer.
-#[derive(Clone, Copy)]
+#[derive(Clone, Copy, Debug, PartialEq, Eq, PartialOrd, Ord, Hash)]
 pub struct Offset(pub usize);
 
 // The fields of one row of the table, out of its two words.
-#[derive(Clone, Copy)]
+#[derive(Clone, Copy, Debug, PartialEq, Eq, Hash)]
 pub struct RowFields {
-    pub kind: usize,
+    pub kind: Kind,
     pub dimension: Dimension,
     pub order: Endianness,
     pub srid: bool,
@@ -54,7 +100,7 @@ pub struct RowFields {
 }
 
 // Why a call was refused, and where.
-#[derive(Clone, Copy)]
+#[derive(Clone, Copy, Debug, PartialEq, Eq, Hash)]
 pub enum Refusal {
     // 1: the buffer is longer than 1,048,575 bytes
     TooLong,
@@ -80,16 +126,49 @@ pub enum Refusal {
     OutputTooShort(usize),
 }
 
-#[derive(Clone, Copy)]
-pub enum ReadAnswer {
-    Accepted { length: usize, rows: usize },
-    Refused(Refusal),
+impl Refusal {
+    ghost use Rattle.std.specs.Prelude.{◌≡◌};
+    ghost use Rattle.meaning.specs.Answer.{numbered};
+
+    // Number and place.
+    pub fn numbered(self) -> (usize, usize)
+        ensures { result ≡ numbered self }
+    {
+        match self {
+            Refusal::TooLong => (1, 0),
+            Refusal::PastEnd(at) => (2, at.0),
+            Refusal::ByteOrder(at) => (3, at.0),
+            Refusal::TypeCode(at) => (4, at.0),
+            Refusal::WrongChild(at) => (5, at.0),
+            Refusal::ChildSrid(at) => (6, at.0),
+            Refusal::TooDeep(at) => (7, at.0),
+            Refusal::TooFewRows(rows) => (8, rows),
+            Refusal::Unsound(row) => (9, row.0),
+            Refusal::NotThere(number) => (10, number),
+            Refusal::OutputTooShort(bytes) => (11, bytes),
+        }
+    }
 }
 
-#[derive(Clone, Copy)]
-pub enum OrdinateAnswer {
-    Bits(u64),
-    Refused(Refusal),
+impl fmt::Display for Refusal {
+    ghost use Rattle.std.specs.Prelude.{Some};
+    ghost use Rattle.meaning.specs.Printed.{refusal_text};
+
+    ghost output = { λ x. Some (refusal_text x) };
+
+    fn fmt<W: fmt::Write>(&self, f: &mut fmt::Formatter<W>) -> fmt::Result {
+        let (number, place) = self.numbered();
+        write!(f, "refused {number} {place}")
+    }
+}
+
+impl Error for Refusal {}
+
+// The prefix that the reader accepted: its length, and how many rows list it.
+#[derive(Clone, Copy, Debug, PartialEq, Eq, Hash)]
+pub struct Prefix {
+    pub length: usize,
+    pub rows: usize,
 }
 
 // A coordinate's floats together; what the dimension does not carry is positive zero.
@@ -102,34 +181,9 @@ pub struct Coordinate {
     pub m: f64,
 }
 
-#[derive(Clone, Copy)]
-pub enum CoordinateAnswer {
-    At(Coordinate),
-    Refused(Refusal),
-}
-
 // How to read a coordinate part: its byte order and how many coordinates it holds.
-#[derive(Clone, Copy)]
-pub enum FormAnswer {
-    Form { order: Endianness, count: usize },
-    Refused(Refusal),
-}
-
-#[derive(Clone, Copy)]
-pub enum ChildAnswer {
-    Child(Row),
-    Refused(Refusal),
-}
-
-#[derive(Clone, Copy)]
-pub enum SridAnswer {
-    NoSrid,
-    Srid(u32),
-    Refused(Refusal),
-}
-
-#[derive(Clone, Copy)]
-pub enum WriteAnswer {
-    Written(usize),
-    Refused(Refusal),
+#[derive(Clone, Copy, Debug, PartialEq, Eq, Hash)]
+pub struct Form {
+    pub order: Endianness,
+    pub count: usize,
 }

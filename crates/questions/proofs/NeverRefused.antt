@@ -69,9 +69,9 @@ shown_few h cs = go (empty_point h cs)
     go true = omega arith
     go false = omega arith
 
-module _ (b : List ℕ) (h : Header) (cs : List Ordinates) (kids : Forest) (y : RowFields) (s : Lists b (h, cs, kids) y) (k : h.kind ≤ 2) where
+module _ (b : List ℕ) (h : Header) (cs : List Ordinates) (kids : Forest) (y : RowFields) (s : Lists b (h, cs, kids) y) (k : holds_coordinates h.kind ≡ true) where
   counted : count h cs kids ≡ length (shown h cs)
-  counted = rw (le-leb h.kind 2 k)
+  counted = rw k
 
   run_length : length (ordinate_bytes h.order cs) ≡ 8 * size h.dimension * length cs
   run_length = length_ordinate_bytes h.order (size h.dimension) cs s.body.ordinates
@@ -88,7 +88,7 @@ module _ (b : List ℕ) (h : Header) (cs : List Ordinates) (kids : Forest) (y : 
       let d₂ = length-append (bytes kids) s.behind in
       let d₃ = length-drop s.at b in
       let four = front_some h (count h cs kids) in
-      three_tests _ _ _ (le-leb h.kind 2 k)
+      three_tests _ _ _ k
       (le-leb ((row_of s.at s.level h cs kids).body.0 + 8 * size h.dimension * count h cs kids) (row_of s.at s.level h cs kids).end.0 (omega arith))
       (le-leb (row_of s.at s.level h cs kids).end.0 (length b) (omega arith))
 
@@ -114,7 +114,7 @@ ordinate_by b r i a here y = do
   j ← on_axis (position a (axes y.dimension)) a
   answered (number_at y.order 8 b (y.body.0 + 8 * (size y.dimension * i + j)))
 
-module _ (b : List ℕ) (h : Header) (cs : List Ordinates) (kids : Forest) (y : RowFields) (s : Lists b (h, cs, kids) y) (k : h.kind ≤ 2) where
+module _ (b : List ℕ) (h : Header) (cs : List Ordinates) (kids : Forest) (y : RowFields) (s : Lists b (h, cs, kids) y) (k : holds_coordinates h.kind ≡ true) where
   ordinate_there : (r i a j : ℕ) → i < length (shown h cs) → position a (axes h.dimension) ≡ some j
       → ordinate_by b r i a true (row_of s.at s.level h cs kids) ≡ answered (get_or (get_or (shown h cs) i []) j 0)
   ordinate_there r i a j lt p =
@@ -167,7 +167,7 @@ x_first Xyzm = refl
 
 module _ (b : List ℕ) (all : Bytes b) (t : List ℕ) (f : Forest) (n : ℕ) (l : Listed b t f n) (r : ℕ) (h : Header) (cs : List Ordinates) (kids : Forest)
     (e : get_elem? (nodes f) r ≡ some (h, cs, kids)) where
-  module _ (k : h.kind ≤ 2) where
+  module _ (k : holds_coordinates h.kind ≡ true) where
     pub ordinate_answered : (i a j : ℕ) → i < length (shown h cs) → position a (axes h.dimension) ≡ some j → ordinate b t r i a ≡ answered (get_or (get_or (shown h cs) i []) j 0)
     unfolding ordinate
     ordinate_answered i a j lt p =

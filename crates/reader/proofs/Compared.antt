@@ -2,7 +2,7 @@
 use Prim.Native.Nat.{ℕ, suc, ◌+◌, ◌*◌, ◌/◌, ◌≤◌, ◌<◌}
 use native.Mathlib.Omega.{arith}
 use mathlib.Core.Path.{◌≡◌, refl, sym, ap, ap₂, ◌∙◌}
-use mathlib.Core.Bool.{Bool, ◌&&◌, and_assoc, and_comm}
+use mathlib.Core.Bool.{Bool, true, ◌&&◌, and_assoc, and_comm}
 use mathlib.Core.List.{List, [], ◌∷◌}
 use lib.ListN.{length, take, drop, get_or}
 use lib.Seq.{drop-cons}
@@ -13,7 +13,9 @@ use Rattle.meaning.specs.Grammar.{Forest}
 use Rattle.meaning.specs.Table.{rows_in, rows, word_a, word_b, words}
 use Rattle.meaning.specs.Questions.{same_words}
 use Rattle.meaning.proofs.Siblings.{length_rows}
-use Rattle.reader.specs.Walk.{has_row, has_rows}
+use Rattle.reader.specs.declared.rows.Compare.{Compare}
+use Rattle.reader.specs.Rows.{has_row, has_rows, list_rows}
+use Rattle.reader.proofs.Listing.{list_along}
 
 has_at : (t : List ℕ) (r : ℕ) (f : RowFields) → r < length t / 2 → has_row t r f ≡ eqb (get_or t (2 * r) 0) (word_a f) && eqb (get_or t (2 * r + 1) 0) (word_b f)
 has_at t r f h = rw (lt-ltb r (length t / 2) h)
@@ -27,7 +29,7 @@ drop_two t i h =
 
 -- rows that the table has room for
 has_words : (t : List ℕ) (r : ℕ) (rs : List RowFields) → r + length rs ≤ length t / 2 → has_rows t r rs ≡ same_words (take (2 * length rs) (drop (2 * r) t)) (words rs)
-unfolding has_rows same_words words
+unfolding list_rows same_words words
 has_words t r [] h = refl
 has_words t r (f ∷ fs) h =
     let a = get_or t (2 * r) 0 in
@@ -47,3 +49,14 @@ pub compared : (t : List ℕ) (f : Forest) → rows_in f ≤ length t / 2 → ha
 compared t f h =
     let n = length_rows f 0 0 in
     has_words t 0 (rows 0 0 f) (omega arith) ∙ ap (λ (k : ℕ). same_words (take (2 * k) t) (words (rows 0 0 f))) n
+
+-- a table compared with the rows that a walk lists
+abbrev pub compared_with : Compare → ℕ → RowFields → Compare
+compared_with s r f = record s { same = s.same && has_row s.table.now r f }
+
+pub compares : (s : Compare) (r : ℕ) (fs : List RowFields) → s.same ≡ true → (list_rows compared_with s r fs).same ≡ has_rows s.table.now r fs
+compares s r fs e =
+    let old = s.table.now in
+    let along : list_rows compared_with s r fs ≡ record s { same = list_rows (λ same i f. same && has_row old i f) s.same r fs } =
+    sym (list_along (λ (same : Bool) i f. same && has_row old i f) compared_with (λ (same : Bool). record s { same = same }) (λ b i f. refl) s.same r fs) in
+    ap (λ (c : Compare). c.same) along ∙ ap (λ (b : Bool). list_rows (λ same i f. same && has_row old i f) b r fs) e

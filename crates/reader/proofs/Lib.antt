@@ -1,7 +1,7 @@
 mod Known
-mod Children
+mod There
 mod Headers
-mod Rows
+mod Listing
 mod Walks
 mod Nans
 mod Leaves

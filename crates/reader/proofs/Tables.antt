@@ -3,21 +3,24 @@ use Prim.Native.Nat.{ℕ, suc, ◌+◌, ◌*◌, ◌/◌, ◌≤◌, ◌<◌}
 use native.Mathlib.Nat.{add-zero, zero-add}
 use native.Mathlib.Omega.{arith}
 use mathlib.Core.Path.{◌≡◌, refl, sym, ap, ap₂, ◌∙◌}
-use mathlib.Core.Bool.{true}
 use mathlib.Core.List.{List, [], ◌∷◌, ◌++◌, append_assoc}
 use lib.ListN.{length, take, drop, get_or, set, length-append, take-append-drop}
 use lib.Seq.{take-suc, set_at, length-take-le}
 use borrow.Author.Tests.{le-leb, lt-leb}
+use Rattle.std.specs.Prelude.{Result, Ok, Err}
+use Rattle.meaning.specs.declared.Refusal.{Refusal}
 use Rattle.meaning.specs.declared.RowFields.{RowFields}
-use Rattle.meaning.specs.Grammar.{Forest, outermost}
+use Rattle.meaning.specs.Grammar.{Forest}
 use Rattle.meaning.specs.Answer.{Answer, refused, answered}
-use Rattle.meaning.specs.Reading.{forest, reading}
+use Rattle.meaning.specs.Reading.{reading}
 use Rattle.meaning.specs.Table.{rows_in, rows, word_a, word_b, words, rows_of, tabled, read_wkb}
-use Rattle.meaning.proofs.Accepted.{reading_short}
 use Rattle.meaning.proofs.Siblings.{length_rows}
-use Rattle.reader.specs.declared.walk.Walk.{Walk}
-use Rattle.reader.specs.Walk.{State, put_rows, has_rows, whole, walked}
-use Rattle.reader.proofs.Rows.{put_at, put_length}
+use Rattle.reader.specs.declared.rows.Fill.{Fill}
+use Rattle.reader.specs.declared.spot.Spot.{Spot}
+use Rattle.reader.specs.Orders.{put_at, put_length}
+use Rattle.reader.specs.Rows.{Lists, list_rows, put_row, put_rows}
+use Rattle.reader.specs.Walk.{State, whole, walked}
+use Rattle.reader.proofs.Listing.{list_along}
 
 -- two words behind each other
 set_two : (p : List ℕ) (x y : ℕ) (s : List ℕ) (i a b : ℕ) → length p ≡ i → set (set (p ++ (x ∷ y ∷ s)) i a) (i + 1) b ≡ p ++ (a ∷ b ∷ s)
@@ -37,13 +40,13 @@ length_words [] = refl
 length_words (r ∷ rs) = let e = length_words rs in omega arith
 
 rows_length : (t : List ℕ) (r : ℕ) (fs : List RowFields) → length (put_rows t r fs) ≡ length t
-unfolding put_rows
+unfolding list_rows
 rows_length t r [] = refl
 rows_length t r (f ∷ fs) = put_length (put_rows t (suc r) fs) r f ∙ rows_length t (suc r) fs
 
 -- rows that fit are put at their places
 put_fits : (t : List ℕ) (r : ℕ) (rs : List RowFields) → r + length rs ≤ length t / 2 → put_rows t r rs ≡ take (2 * r) t ++ (words rs ++ drop (2 * (r + length rs)) t)
-unfolding put_rows words
+unfolding list_rows words
 put_fits t r [] h = sym (ap (λ (n : ℕ). take (2 * r) t ++ drop (2 * n) t) (add-zero r) ∙ take-append-drop (2 * r) t)
 put_fits t r (f ∷ fs) h =
     let X = words fs ++ drop (2 * (suc r + length fs)) t in
@@ -66,60 +69,45 @@ filled_words t f h =
     let n = length_rows f 0 0 in
     put_fits t 0 (rows 0 0 f) (omega arith) ∙ ap (λ (k : ℕ). words (rows 0 0 f) ++ drop (2 * k) t) (zero-add (length (rows 0 0 f)) ∙ n)
 
--- a part of no words is lent, and comes back
-pub nothing_lent : (ys t : List ℕ) → length ys ≡ 0 → ys ++ t ≡ t
-nothing_lent [] t e = refl
-nothing_lent (y ∷ ys) t e = absurd (omega arith)
-
-pub too_long : (b t : List ℕ) → 1048575 < length b → (refused 1 0, t) ≡ read_wkb b t
+pub reading_long : (b : List ℕ) → 1048575 < length b → reading b ≡ refused 1 0
 unfolding reading
-too_long b t h = rw (lt-leb (length b) 1048575 h)
+reading_long b h = rw (lt-leb (length b) 1048575 h)
 
-module _ (b t : List ℕ) (short : length b ≤ 1048575) (old out : List ℕ) where
-  abbrev all_of_it : Answer (Forest × ℕ)
-  all_of_it = forest b 19 1 outermost 0 0
+-- a table filled with the rows that a walk lists
+abbrev pub listed : Fill → ℕ → RowFields → Fill
+listed s i f = record s { table = record s.table { now = put_row s.table.now i f } }
 
-  by_walk : (A : Answer (Forest × ℕ)) → all_of_it ≡ A → tabled A t ≡ read_wkb b t
-  by_walk A e = ap (λ (x : Answer (Forest × ℕ)). tabled x t) (sym (reading_short b short ∙ e))
+abbrev pub with : Fill → List ℕ → Fill
+with s t = record s { table = record s.table { now = t } }
 
-  state_of : {st : State} (x : Forest × ℕ) → answered st ≡ whole old 0 0 0 true out (answered x) → st ≡ (x.1, 0 + rows_in x.0, has_rows old 0 (rows 0 0 x.0), put_rows out 0 (rows 0 0 x.0))
-  state_of x j = cc
+pub fills : (s : Fill) (r : ℕ) (fs : List RowFields) → list_rows listed s r fs ≡ with s (put_rows s.table.now r fs)
+fills s r fs = sym (list_along put_row listed (with s) (λ t i f. refl) s.table.now r fs)
 
-  -- the walk over no table was refused
-  pub read_refused : (n k : ℕ) → refused n k ≡ whole old 0 0 0 true out all_of_it → (refused n k, t) ≡ read_wkb b t
-  read_refused n k i = go all_of_it refl i
-    where
-      go : (A : Answer (Forest × ℕ)) → all_of_it ≡ A → refused n k ≡ whole old 0 0 0 true out A → (refused n k, t) ≡ read_wkb b t
-      go (refused x y) e j =
-          let p : x ≡ n = cc in
-          let q : y ≡ k = cc in
-          ap₂ (λ (u v : ℕ). (refused u v, t)) (sym p) (sym q) ∙ by_walk (refused x y) e
-      go (answered x) e j = let z : ◌≡◌ {A = ℕ} 0 1 = cc in absurd (omega arith)
+module _ (b t : List ℕ) {S : Type 0} (list : Lists S) (s : S) where
+  by_walk : (A : Answer (Forest × ℕ)) → reading b ≡ A → tabled A t ≡ read_wkb b t
+  by_walk A e = ap (λ (x : Answer (Forest × ℕ)). tabled x t) (sym e)
 
-  module _ (st : State) (i : answered st ≡ whole old 0 0 0 true out all_of_it) where
-    -- the table has too few rows
-    pub too_few : length t / 2 < st.1 → (refused 8 st.1, t) ≡ read_wkb b t
-    too_few lt = go all_of_it refl i
-      where
-        go : (A : Answer (Forest × ℕ)) → all_of_it ≡ A → answered st ≡ whole old 0 0 0 true out A → (refused 8 st.1, t) ≡ read_wkb b t
-        go (refused x y) e j = let z : ◌≡◌ {A = ℕ} 0 1 = cc in absurd (omega arith)
-        go (answered x) e j =
-            let i₁ : st.1 ≡ 0 + rows_in x.0 = ap (λ (y : State). y.1) (state_of x j) in
-            ap (λ (n : ℕ). (refused 8 n, t)) (i₁ ∙ zero-add (rows_in x.0)) ∙ rw (lt-leb (rows_in x.0) (rows_of t) (omega arith)) at (by_walk (answered x) e)
+  module _ (st : State S) (i : answered st ≡ whole list 0 0 0 s (reading b)) where
+    ends : (x : Forest × ℕ) → answered st ≡ whole list 0 0 0 s (answered x) → (st.0 ≡ x.1) × (st.1 ≡ rows_in x.0)
+    ends x j =
+        let e : st ≡ (x.1, 0 + rows_in x.0, list_rows list s 0 (rows 0 0 x.0)) = cc in
+        (ap (λ (y : State S). y.0) e, ap (λ (y : State S). y.1) e ∙ zero-add (rows_in x.0))
 
     -- it has room, and the second walk has filled it
-    pub read_filled : st.1 ≤ length t / 2 → (w : Walk) (ys : List ℕ) → walked w ys ≡ whole old 0 0 0 true t all_of_it → (answered (st.0, st.1), ys) ≡ read_wkb b t
-    read_filled le w ys k = go all_of_it refl i w k
+    pub read_filled : st.1 ≤ length t / 2 → (f : Fill) (w : Result Spot Refusal) (new : Fill) → f.table.now ≡ t → walked w new ≡ whole listed 0 0 0 f (reading b)
+        → (u : List ℕ) × ((answered (st.0, st.1), u) ≡ read_wkb b t) × (new ≡ with f u) × ((e : Refusal) → w ≡ Err e → ⊥)
+    read_filled le f w new p k = go (reading b) refl i w k
       where
-        go : (A : Answer (Forest × ℕ)) → all_of_it ≡ A → answered st ≡ whole old 0 0 0 true out A → (w : Walk) → walked w ys ≡ whole old 0 0 0 true t A
-            → (answered (st.0, st.1), ys) ≡ read_wkb b t
+        go : (A : Answer (Forest × ℕ)) → reading b ≡ A → answered st ≡ whole list 0 0 0 s A → (w : Result Spot Refusal) → walked w new ≡ whole listed 0 0 0 f A
+            → (u : List ℕ) × ((answered (st.0, st.1), u) ≡ read_wkb b t) × (new ≡ with f u) × ((e : Refusal) → w ≡ Err e → ⊥)
         go (refused x y) e j w k = let z : ◌≡◌ {A = ℕ} 0 1 = cc in absurd (omega arith)
-        go (answered x) e j (Walk.Refused why) k = let z : ◌≡◌ {A = ℕ} 0 1 = cc in absurd (omega arith)
-        go (answered x) e j (Walk.Done n r same) k =
-            let f = x.0 in
-            let i₀ : st.0 ≡ x.1 = ap (λ (y : State). y.0) (state_of x j) in
-            let i₁ : st.1 ≡ rows_in f = ap (λ (y : State). y.1) (state_of x j) ∙ zero-add (rows_in f) in
-            let full : ◌≡◌ {A = State} (n.0, r.0, same, ys) (x.1, 0 + rows_in f, has_rows old 0 (rows 0 0 f), put_rows t 0 (rows 0 0 f)) = cc in
-            let fits : rows_in f ≤ length t / 2 = omega arith in
-            let yes : ys ≡ words (rows 0 0 f) ++ drop (2 * rows_in f) t = ap (λ (y : State). y.3) full ∙ filled_words t f fits in
-            (λ z. (answered (i₀ z, i₁ z), yes z)) ∙ rw (le-leb (rows_in f) (rows_of t) fits) at (by_walk (answered x) e)
+        go (answered x) e j (Err why) k = let z : ◌≡◌ {A = ℕ} 0 1 = cc in absurd (omega arith)
+        go (answered x) e j (Ok end) k =
+            let (i₀, i₁) = ends x j in
+            let fits : rows_in x.0 ≤ length t / 2 = omega arith in
+            let full : ◌≡◌ {A = State Fill} (end.at.0, end.row.0, new) (x.1, 0 + rows_in x.0, list_rows listed f 0 (rows 0 0 x.0)) = cc in (
+              words (rows 0 0 x.0) ++ drop (2 * rows_in x.0) t,
+              ap₂ (λ (n m : ℕ). (answered (n, m), words (rows 0 0 x.0) ++ drop (2 * rows_in x.0) t)) i₀ i₁ ∙ rw (le-leb (rows_in x.0) (rows_of t) fits) at (by_walk (answered x) e),
+              ap (λ (y : State Fill). y.2) full ∙ fills f 0 (rows 0 0 x.0) ∙ ap (with f) (ap (λ (y : List ℕ). put_rows y 0 (rows 0 0 x.0)) p ∙ filled_words t x.0 fits),
+              λ e' q. let z : ◌≡◌ {A = ℕ} 0 1 = cc in absurd (omega arith),
+            )

@@ -1,23 +1,30 @@
 -- What the code's values for a parent's demands and for a header mean.
-use Rattle.std.specs.Prelude.{ℕ, ◌+◌, ◌≡◌, List, length, true, false, not}
+use Rattle.std.specs.Prelude.{ℕ, ◌+◌, ◌≡◌, List, length, true, false, not, Result}
 use Rattle.std.proofs.Math.Option.{none, some}
 use Rattle.meaning.specs.declared.Endianness.{Endianness}
+use Rattle.meaning.specs.declared.Refusal.{Refusal}
 use Rattle.meaning.specs.declared.WkbType.{WkbType}
-use Rattle.meaning.specs.Grammar.{Header, Asks, is_some, fits, srid_fits, too_deep}
+use Rattle.meaning.specs.Grammar.{Header, Asks, Place, rings, geometries, is_some, fits, srid_fits, too_deep}
 use Rattle.meaning.specs.Reading.{Reader, guard, srid, give, ◌>>=◌, ◌>>◌}
-use Rattle.meaning.specs.Answer.{Answer, refused, answered, refusal}
+use Rattle.meaning.specs.Answer.{Answer, refused, answered, meant}
 use Rattle.meaning.specs.Table.{offset}
 use Rattle.meaning.proofs.Headers.{headed}
-use Rattle.reader.specs.declared.util.Parent.{Parent}
-use Rattle.reader.specs.declared.util.Parent.TheVariants.{NoParent, Multi, Collection}
+use Rattle.reader.specs.declared.place.Parent.{Parent}
+use Rattle.reader.specs.declared.place.Parent.TheVariants.{NoParent, Multi, Collection}
+use Rattle.reader.specs.declared.place.Place.{Place as CodePlace}
+use Rattle.reader.specs.declared.place.Place.TheVariants.{Rings, Geometries}
 use Rattle.reader.specs.declared.geometry.Head.{Head}
-use Rattle.reader.specs.declared.geometry.HeadAnswer.{HeadAnswer}
 
 -- what a place below this parent asks
 abbrev pub asks_of : Parent → Asks
 asks_of NoParent = record { kind = none; dimension = none; srid = true }
 asks_of (Multi k d) = record { kind = some k; dimension = some d; srid = false }
 asks_of Collection = record { kind = none; dimension = none; srid = false }
+
+-- the place that the code's place means
+abbrev pub place_of : CodePlace → Place
+place_of (Rings o d) = rings o d
+place_of (Geometries p) = geometries (asks_of p)
 
 -- what of a header the walk needs: not the code, and of the SRID only that it is there
 abbrev pub head_of : Header → ℕ → Head
@@ -32,9 +39,8 @@ abbrev pub viewed : Answer (Header × ℕ) → Answer Head
 viewed (refused n p) = refused n p
 viewed (answered x) = answered (head_of x.0 x.1)
 
-abbrev pub head_meant : HeadAnswer → Answer Head
-head_meant (HeadAnswer.Opens h) = answered h
-head_meant (HeadAnswer.Refused x) = refusal x
+abbrev pub head_meant : Result Head Refusal → Answer Head
+head_meant = meant (λ h. h)
 
 -- the header's reading from where its code is known
 abbrev pub opened : List ℕ → Asks → ℕ → ℕ → Endianness → ℕ → WkbType → Reader Header

@@ -1,2 +1,4 @@
 pub mod Asks
+pub mod Orders
+pub mod Rows
 pub mod Walk

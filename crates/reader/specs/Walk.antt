@@ -1,15 +1,18 @@
--- What the walk makes of geometries that were read: rows put where they fit, and compared with those of another table.
-use Rattle.std.specs.Prelude.{ℕ, zero, suc, ◌+◌, ◌*◌, ◌-◌, ◌≤◌, Bool, true, ◌&&◌, cond, List, [], ◌∷◌, set, get_or, ltb, eqb}
+-- What the walk makes of geometries that were read: where it ends, and what lists their rows.
+use Rattle.std.specs.Prelude.{ℕ, zero, suc, ◌+◌, ◌-◌, ◌≤◌, Bool, true, ◌&&◌, List, Result, Ok, Err}
 use Rattle.meaning.specs.declared.Endianness.{Endianness}
 use Rattle.meaning.specs.declared.Offset.{Offset}
+use Rattle.meaning.specs.declared.Refusal.{Refusal}
 use Rattle.meaning.specs.declared.RowFields.{RowFields}
 use Rattle.meaning.specs.Number.{number_at}
 use Rattle.meaning.specs.Grammar.{Forest, is_nan, Place, rings, geometries}
 use Rattle.meaning.specs.Answer.{Answer, refused, answered, refusal}
-use Rattle.meaning.specs.Table.{rows_in, rows, word_a, word_b, rows_of, RowFits}
+use Rattle.meaning.specs.Table.{rows_in, rows, RowFits}
 use Rattle.meaning.proofs.Levels.{Enough}
 use Rattle.reader.specs.declared.geometry.Head.{Head}
-use Rattle.reader.specs.declared.walk.Walk.{Walk}
+use Rattle.reader.specs.declared.opened.Opened.{Opened}
+use Rattle.reader.specs.declared.spot.Spot.{Spot}
+use Rattle.reader.specs.Rows.{Lists, list_rows}
 
 -- the fields of a row that a header opens
 abbrev pub row_from : Head → Offset → ℕ → Offset → Offset → ℕ → ℕ → RowFields
@@ -26,37 +29,27 @@ row_from h start l body end n s = record {
   body = body;
 }
 
--- a row's words in the table, where it has that row
-abbrev pub put_row : List ℕ → ℕ → RowFields → List ℕ
-put_row out r f = cond (ltb r (rows_of out)) (set (set out (2 * r) (word_a f)) (2 * r + 1) (word_b f)) out
+-- the row of what was opened, by where it ends and the next row
+abbrev pub closed : Opened → Spot → RowFields
+closed o behind = row_from o.head o.spot.at o.level o.body behind.at o.count (behind.row.0 - o.spot.row.0)
 
--- whether a table has these words in that row, or no such row
-abbrev pub has_row : List ℕ → ℕ → RowFields → Bool
-has_row old r f = cond (ltb r (rows_of old)) (eqb (get_or old (2 * r) 0) (word_a f) && eqb (get_or old (2 * r + 1) 0) (word_b f)) true
+-- the next row is behind it, and each field fits its bits
+abbrev pub Closable : Opened → Spot → Type 0
+Closable o behind = (o.spot.row.0 ≤ behind.row.0) × RowFits (closed o behind)
 
--- rows from r on: a row is known, and put, after those below it
-unfoldable pub put_rows : List ℕ → ℕ → List RowFields → List ℕ
-put_rows out r [] = out
-put_rows out r (f ∷ fs) = put_row (put_rows out (suc r) fs) r f
-
-unfoldable pub has_rows : List ℕ → ℕ → List RowFields → Bool
-has_rows old r [] = true
-has_rows old r (f ∷ fs) = has_rows old (suc r) fs && has_row old r f
-
--- the offset behind, the next row, whether all rows so far were the same, and the table
-abbrev pub State : Type 0
-State = ℕ × ℕ × Bool × List ℕ
+-- the offset behind, the next row, and what listed the rows
+abbrev pub State : Type 0 → Type 0
+State S = ℕ × ℕ × S
 
 -- what becomes of siblings that begin at an offset, at a level, with their first row
-abbrev pub whole : List ℕ → ℕ → ℕ → ℕ → Bool → List ℕ → Answer (Forest × ℕ) → Answer State
-whole old r l at same out (refused n p) = refused n p
-whole old r l at same out (answered x) =
-    answered (x.1, r + rows_in x.0, same && has_rows old r (rows at l x.0), put_rows out r (rows at l x.0))
+abbrev pub whole : {S : Type 0} → Lists S → ℕ → ℕ → ℕ → S → Answer (Forest × ℕ) → Answer (State S)
+whole list r l at s (refused n p) = refused n p
+whole list r l at s (answered x) = answered (x.1, r + rows_in x.0, list_rows list s r (rows at l x.0))
 
--- what a walk's answer and the table after it say; of a refused walk the table does not count
-abbrev pub walked : Walk → List ℕ → Answer State
-walked (Walk.Done e r same) out = answered (e.0, r.0, same, out)
-walked (Walk.Refused x) out = refusal x
+-- what a walk's answer and what listed the rows say; of a refused walk the latter does not count
+abbrev pub walked : {S : Type 0} → Result Spot Refusal → S → Answer (State S)
+walked (Ok e) s = answered (e.at.0, e.row.0, s)
+walked (Err x) s = refusal x
 
 -- whether the n ordinates from an offset on are all NaN
 unfoldable pub all_nan : List ℕ → Endianness → ℕ → ℕ → Bool
@@ -67,14 +60,3 @@ all_nan b o (suc n) at = is_nan (number_at o 8 b at) && all_nan b o n (at + 8)
 abbrev pub Room : Place → ℕ → Type 0
 Room (rings o d) l = l ≤ 18
 Room (geometries a) l = Enough (geometries a) l 19 × (l ≤ 17)
-
--- a parent's row on top of what its children came to
-abbrev pub Closable : Walk → Offset → ℕ → ℕ → Head → ℕ → Offset → Type 0
-Closable (Walk.Done e r same) at row l h n body = (row ≤ r.0) × RowFits (row_from h at l body e n (r.0 - row))
-Closable (Walk.Refused x) at row l h n body = Unit
-
-abbrev pub closed : Walk → Offset → ℕ → ℕ → Head → ℕ → Offset → List ℕ → List ℕ → Answer State
-closed (Walk.Done e r same) at row l h n body old out =
-    let f = row_from h at l body e n (r.0 - row) in
-    answered (e.0, r.0, same && has_row old row f, put_row out row f)
-closed (Walk.Refused x) at row l h n body old out = refusal x

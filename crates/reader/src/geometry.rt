@@ -1,24 +1,26 @@
 // A geometry: its header, and then by its kind.
-ghost use Rattle.std.specs.Prelude.{◌≡◌, true, ℕ, ◌+◌, ◌≤◌, length};
+ghost use Rattle.std.specs.Prelude.{◌≡◌, ℕ, ◌+◌, ◌≤◌, length};
 ghost use Rattle.meaning.specs.Grammar.{geometries};
 ghost use Rattle.meaning.specs.Reading.{header, forest};
-ghost use Rattle.reader.specs.Asks.{asks_of, head_meant, viewed, opened};
-ghost use Rattle.reader.specs.Walk.{walked, whole, Room, Closable, closed};
+ghost use Rattle.reader.specs.Asks.{asks_of, place_of, head_meant, viewed, opened};
+ghost use Rattle.reader.specs.Walk.{walked, whole, Room};
 
 use crate::geometry_collection::collection;
-use crate::linearring::rings;
+use crate::linearring::ring;
 use crate::linestring::line_string;
+use crate::opened::{Opened, close};
+use crate::place::{Parent, Place, child_fits, inside, srid_fits, too_deep};
 use crate::point::point;
-use crate::util::{Parent, child_fits, parent_of, srid_fits, too_deep};
-use crate::walk::{Walk, both, list_row, row_of};
+use crate::rows::Rows;
+use crate::spot::Spot;
+use crate::util::{read_u32, there};
 use fields::code::{order_of, type_of};
-use fields::number::read_u32;
-use meaning::{Dimension, Endianness, Offset, Refusal, Row, TypeAnswer, WkbType};
+use meaning::{Dimension, Endianness, Kind, Offset, Refusal, Row, WkbType};
 
 // What of a header the walk needs.
-#[derive(Clone, Copy)]
+#[derive(Clone, Copy, Debug, PartialEq, Eq)]
 pub struct Head {
-    pub kind: usize,
+    pub kind: Kind,
     pub dimension: Dimension,
     pub order: Endianness,
     pub srid: bool,
@@ -26,38 +28,19 @@ pub struct Head {
     pub next: Offset,
 }
 
-#[derive(Clone, Copy)]
-pub enum HeadAnswer {
-    Opens(Head),
-    Refused(Refusal),
-}
-
-fn byte(b: u8) -> usize
-    ensures { result ≡ b }
-{
-    b as usize
-}
-
-pub fn header(buf: &[u8], at: Offset, level: usize, parent: Parent) -> HeadAnswer
+pub fn header(buf: &[u8], at: Offset, level: usize, parent: Parent) -> Result<Head, Refusal>
     ensures { head_meant result ≡ viewed (header buf.now (geometries (asks_of parent)) level at.0) }
 {
-    let start = at.0;
-    if buf.len() <= start {
-        return HeadAnswer::Refused(Refusal::PastEnd(at));
+    there(buf, at, 1)?;
+    let byte = buf[at.0];
+    if 1 < byte {
+        return Err(Refusal::ByteOrder(at));
     }
-    let x = byte(buf[start]);
-    if 1 < x {
-        return HeadAnswer::Refused(Refusal::ByteOrder(at));
-    }
-    let order = order_of(x);
-    let code_at = start + 1;
-    if buf.len() - code_at < 4 {
-        return HeadAnswer::Refused(Refusal::PastEnd(Offset(code_at)));
-    }
-    let answer = type_of(read_u32(buf, Offset(code_at), order));
-    match answer {
-        TypeAnswer::NotAllowed => HeadAnswer::Refused(Refusal::TypeCode(Offset(code_at))),
-        TypeAnswer::Known(t) => opened(buf, at, level, parent, order, t),
+    let order = order_of(usize::from(byte));
+    let code = Offset(at.0 + 1);
+    match type_of(read_u32(buf, code, order)?) {
+        None => Err(Refusal::TypeCode(code)),
+        Some(t) => opened(buf, at, level, parent, order, t),
     }
 }
 
@@ -69,133 +52,76 @@ fn opened(
     parent: Parent,
     order: Endianness,
     t: WkbType,
-) -> HeadAnswer
+) -> Result<Head, Refusal>
     requires { at.0 + 5 ≤ length buf.now }
     ensures { (c : ℕ) → head_meant result ≡ viewed (opened buf.now (asks_of parent) level at.0 order c t (at.0 + 1 + 4)) }
 {
     let code = Offset(at.0 + 1);
     if !child_fits(parent, t) {
-        return HeadAnswer::Refused(Refusal::WrongChild(code));
+        return Err(Refusal::WrongChild(code));
     }
     if !srid_fits(parent, t) {
-        return HeadAnswer::Refused(Refusal::ChildSrid(code));
+        return Err(Refusal::ChildSrid(code));
     }
     if too_deep(level, t) {
-        return HeadAnswer::Refused(Refusal::TooDeep(at));
+        return Err(Refusal::TooDeep(at));
     }
-    let next = at.0 + 5;
-    let dimension = t.dimension;
-    if !t.srid {
-        return HeadAnswer::Opens(Head {
-            kind: t.kind,
-            dimension,
-            order,
-            srid: false,
-            next: Offset(next),
-        });
+    let mut next = Offset(at.0 + 5);
+    if t.srid {
+        read_u32(buf, next, order)?;
+        next = Offset(at.0 + 9);
     }
-    if buf.len() - next < 4 {
-        return HeadAnswer::Refused(Refusal::PastEnd(Offset(next)));
-    }
-    HeadAnswer::Opens(Head {
+    Ok(Head {
         kind: t.kind,
-        dimension,
+        dimension: t.dimension,
         order,
-        srid: true,
-        next: Offset(next + 4),
+        srid: t.srid,
+        next,
     })
 }
 
-#[cycle(geometry_collection)]
-pub fn geometry(
-    buf: &[u8],
-    out: &mut [u64],
-    old: &[u64],
-    at: Offset,
-    row: Row,
-    level: usize,
-    parent: Parent,
-) -> Walk
-    requires { (length buf.now ≤ 1048575) × (row.0 ≤ at.0) × Room (geometries (asks_of parent)) level }
-    ensures { walked result out.new ≡ whole old.now row.0 level at.0 true out.old (forest buf.now 19 1 (geometries (asks_of parent)) level at.0) }
+// What opens a geometry or ring at a place.
+#[tactic(auto, unfolding(meaning::specs::Reading::header))]
+fn open(buf: &[u8], at: Offset, level: usize, place: Place) -> Result<Head, Refusal>
+    ensures { head_meant result ≡ viewed (header buf.now (place_of place) level at.0) }
 {
-    let answer = header(buf, at, level, parent);
-    match answer {
-        HeadAnswer::Refused(why) => Walk::Refused(why),
-        HeadAnswer::Opens(head) => {
-            let kind = head.kind;
-            if kind == 1 {
-                return point(buf, out, old, at, row, level, head);
-            }
-            if kind == 2 {
-                return line_string(buf, out, old, at, row, level, head);
-            }
-            let next = head.next;
-            if buf.len() - next.0 < 4 {
-                return Walk::Refused(Refusal::PastEnd(next));
-            }
-            let order = head.order;
-            let dimension = head.dimension;
-            let count = read_u32(buf, next, order) as usize;
-            let body = Offset(next.0 + 4);
-            if kind == 3 {
-                let below = rings(
-                    buf,
-                    out,
-                    old,
-                    body,
-                    Row(row.0 + 1),
-                    level + 1,
-                    order,
-                    dimension,
-                    count,
-                );
-                return close(out, old, below, at, row, level, head, count, body);
-            }
-            let below = collection(
-                buf,
-                out,
-                old,
-                body,
-                Row(row.0 + 1),
-                level + 1,
-                parent_of(kind, dimension),
-                count,
-            );
-            close(out, old, below, at, row, level, head, count, body)
-        }
+    match place {
+        Place::Rings(order, dimension) => Ok(ring(at, order, dimension)),
+        Place::Geometries(parent) => header(buf, at, level, parent),
     }
 }
 
-// A parent's own row, which is known once its children are.
-fn close(
-    out: &mut [u64],
-    old: &[u64],
-    below: Walk,
-    at: Offset,
-    row: Row,
+#[cycle(geometry_collection)]
+pub fn geometry<R: Rows>(
+    buf: &[u8],
+    rows: &mut R,
+    spot: Spot,
     level: usize,
-    head: Head,
-    count: usize,
-    body: Offset,
-) -> Walk
-    requires { Closable below at row.0 level head count body }
-    ensures { walked result out.new ≡ closed below at row.0 level head count body old.now out.old }
+    place: Place,
+) -> Result<Spot, Refusal>
+    requires { (length buf.now ≤ 1048575) × Room (place_of place) level }
+    ensures { walked result rows.new ≡ whole R.listed spot.row.0 level spot.at.0 rows.old (forest buf.now 19 1 (place_of place) level spot.at.0) }
 {
-    match below {
-        Walk::Refused(why) => Walk::Refused(why),
-        Walk::Done {
-            next,
-            row: last,
-            same,
-        } => {
-            let f = row_of(head, at, level, body, next, count, last.0 - row.0);
-            let own = list_row(out, old, row, f);
-            Walk::Done {
-                next,
-                row: last,
-                same: both(same, own),
-            }
+    let head = open(buf, spot.at, level, place)?;
+    match head.kind {
+        Kind::Point => point(buf, rows, spot, level, head),
+        Kind::Ring | Kind::LineString => line_string(buf, rows, spot, level, head),
+        _ => {
+            let count = read_u32(buf, head.next, head.order)? as usize;
+            let body = Offset(head.next.0 + 4);
+            let first = Spot {
+                at: body,
+                row: Row(spot.row.0 + 1),
+            };
+            let behind = collection(buf, rows, first, level + 1, inside(head), count)?;
+            let opened = Opened {
+                head,
+                spot,
+                level,
+                count,
+                body,
+            };
+            Ok(close(rows, opened, behind))
         }
     }
 }

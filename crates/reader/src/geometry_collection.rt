@@ -1,53 +1,31 @@
-// Full geometries, one after the other: the children of kinds 4 to 7. Calls, and is called by, the dispatch over kinds; the bytes left fall.
-ghost use Rattle.std.specs.Prelude.{◌≡◌, true, ◌≤◌, length};
-ghost use Rattle.meaning.specs.Grammar.{geometries};
+// Siblings one after the other: rings, or the full geometries below kinds 4 to 7. Calls, and is called by, the dispatch over kinds; the
+// bytes left fall.
+ghost use Rattle.std.specs.Prelude.{◌≡◌, ◌≤◌, length};
 ghost use Rattle.meaning.specs.Reading.{forest};
-ghost use Rattle.reader.specs.Asks.{asks_of};
+ghost use Rattle.reader.specs.Asks.{place_of};
 ghost use Rattle.reader.specs.Walk.{walked, whole, Room};
 
 use crate::geometry::geometry;
-use crate::util::Parent;
-use crate::walk::{Walk, both};
-use meaning::{Offset, Row};
+use crate::place::Place;
+use crate::rows::Rows;
+use crate::spot::Spot;
+use meaning::Refusal;
 
 #[cycle(geometry_collection)]
-pub fn collection(
+pub fn collection<R: Rows>(
     buf: &[u8],
-    out: &mut [u64],
-    old: &[u64],
-    at: Offset,
-    row: Row,
+    rows: &mut R,
+    first: Spot,
     level: usize,
-    parent: Parent,
+    place: Place,
     count: usize,
-) -> Walk
-    requires { (length buf.now ≤ 1048575) × (row.0 ≤ at.0) × Room (geometries (asks_of parent)) level }
-    ensures { walked result out.new ≡ whole old.now row.0 level at.0 true out.old (forest buf.now 19 count (geometries (asks_of parent)) level at.0) }
+) -> Result<Spot, Refusal>
+    requires { (length buf.now ≤ 1048575) × Room (place_of place) level }
+    ensures { walked result rows.new ≡ whole R.listed first.row.0 level first.at.0 rows.old (forest buf.now 19 count (place_of place) level first.at.0) }
 {
-    let mut i = 0;
-    let mut p = at.0;
-    let mut q = row.0;
-    let mut all = true;
-    while i < count {
-        match geometry(buf, out, old, Offset(p), Row(q), level, parent) {
-            Walk::Done {
-                next,
-                row: last,
-                same,
-            } => {
-                p = next.0;
-                q = last.0;
-                all = both(all, same);
-            }
-            Walk::Refused(why) => {
-                return Walk::Refused(why);
-            }
-        }
-        i += 1;
+    let mut spot = first;
+    for _ in 0..count {
+        spot = geometry(buf, rows, spot, level, place)?;
     }
-    Walk::Done {
-        next: Offset(p),
-        row: Row(q),
-        same: all,
-    }
+    Ok(spot)
 }

@@ -1,7 +1,5 @@
-// Lines of text, taken apart and put together.
+// Lines of text taken apart, and a program's input answered line by line.
 #![tactic(auto)]
 
-pub mod line;
-pub mod put;
-pub mod refusal;
+pub mod answers;
 pub mod spelt;

@@ -4,55 +4,30 @@
 mod describe;
 mod record;
 
-ghost use Rattle.std.specs.Prelude.{◌≤◌, length};
+use arrayvec::ArrayString;
+use describe::describe;
+use record::{MOST_BYTES, MOST_WORDS};
+use text::answers::answer_lines;
 
-// The numbers that the system gives to a program's standard input and output.
-const STDIN: i32 = 0;
+// Room for the longest answer: a table takes 17 bytes for each word, two numbers of at most 20 digits, and 22 bytes.
+const ROOM: usize = 17 * MOST_WORDS + 2 * 20 + 22;
 
-const STDOUT: i32 = 1;
+// Room for the input, of which the last byte shows that it is too long.
+const INPUT: usize = 1_048_576;
 
 fn main() {
-    let mut input = [0u8; 1048576];
-    let mut buf = [0u8; 1048576];
-    let mut table = [0u64; 600];
-    lend(&mut input, &mut buf, &mut table);
+    let mut input = [0u8; INPUT];
+    let mut bytes = [0u8; MOST_BYTES];
+    let mut table = [0u64; MOST_WORDS];
+    run(&mut input, &mut bytes, &mut table);
 }
 
-// The arrays become slices here and not in `main`, where their many zeros would be in the way of the proof.
-fn lend(input: &mut [u8; 1048576], buf: &mut [u8; 1048576], table: &mut [u64; 600]) {
-    run(input, buf, table);
-}
-
-fn run(input: &mut [u8], buf: &mut [u8], table: &mut [u64])
-    requires { 600 ≤ length table.old }
-{
-    let n = io::read_full(STDIN, input);
-    if n == input.len() {
-        io::write_all(STDOUT, b"input too long: expected at most 1048575 bytes\n");
-        return;
-    }
-    answer_all(&input[..n], buf, table);
-}
-
-fn answer_all(input: &[u8], buf: &mut [u8], table: &mut [u64])
-    requires { 600 ≤ length table.old }
-{
-    let mut at = 0;
-    let mut number = 1;
-    while at < input.len() {
-        let end = text::line::until(input, at, b'\n');
-        if !answer(&input[at..end], number, buf, table) {
-            return;
-        }
-        at = end + 1;
-        number += 1;
-    }
-}
-
-fn answer(line: &[u8], number: usize, buf: &mut [u8], table: &mut [u64]) -> bool
-    requires { 600 ≤ length table.old }
-{
-    let mut out = [0u8; 10300];
-    let n = describe::describe(line, number, buf, table, &mut out);
-    io::write_all(STDOUT, &out[..n])
+// The arrays are lent here and not in `main`, where their many zeros would be in the way of the proof.
+fn run(input: &mut [u8; INPUT], bytes: &mut [u8; MOST_BYTES], table: &mut [u64; MOST_WORDS]) {
+    answer_lines(
+        input,
+        |line: &[u8], number: usize, answer: &mut ArrayString<ROOM>| {
+            describe(line, number, bytes, table, answer)
+        },
+    );
 }

@@ -1,57 +1,63 @@
 // What a line of the input asks: `R WORDS HEX`.
-ghost use Rattle.std.specs.Prelude.{◌≤◌, length};
-ghost use Rattle.vectors.specs.Record.{Within};
+ghost use Rattle.std.specs.Prelude.{◌≤◌, length, IfOk};
 
-use text::line::until;
-use text::spelt::{Bytes, Number, bytes_of, number_of};
+use std::error::Error;
+use std::fmt;
+use text::spelt::{bytes_of, number_of};
 
-// The most words that a table may have.
+// The most words that a table may have, and the most bytes that a record may.
 pub const MOST_WORDS: usize = 600;
 
-#[derive(Clone, Copy)]
-pub enum Record {
-    // a table of so many words, and a buffer of so many bytes
-    Read { words: usize, length: usize },
-    // the first part that is not as it should be
+pub const MOST_BYTES: usize = 1_048_576;
+
+// A table of so many words, and a buffer of so many bytes.
+#[derive(Clone, Copy, Debug, PartialEq, Eq)]
+pub struct Record {
+    pub words: usize,
+    pub length: usize,
+}
+
+// The first part of the line that is not as it should be.
+#[derive(Clone, Copy, Debug, PartialEq, Eq)]
+pub enum RecordError {
     NoLetter,
     NoWords,
     NoBytes,
 }
 
-// The bytes are put into `buf`.
-pub fn record_of(line: &[u8], buf: &mut [u8]) -> Record
-    ensures { Within result (length buf.old) }
-{
-    if line.len() < 2 {
-        return Record::NoLetter;
+impl fmt::Display for RecordError {
+    fn fmt<W: fmt::Write>(&self, f: &mut fmt::Formatter<W>) -> fmt::Result {
+        match self {
+            RecordError::NoLetter => write!(f, "it does not start with R and a space"),
+            RecordError::NoWords => write!(
+                f,
+                "after R there is no number of words from 0 to {MOST_WORDS}"
+            ),
+            RecordError::NoBytes => write!(
+                f,
+                "after the words there are no bytes in hex, or more than {MOST_BYTES}"
+            ),
+        }
     }
-    if line[0] != b'R' {
-        return Record::NoLetter;
-    }
-    if line[1] != b' ' {
-        return Record::NoLetter;
-    }
-    let from = 2;
-    let end = until(line, from, b' ');
-    let Number::Value(words) = number_of(&line[from..end]) else {
-        return Record::NoWords;
-    };
-    if MOST_WORDS < words {
-        return Record::NoWords;
-    }
-    if end == line.len() {
-        return Record::NoBytes;
-    }
-    let rest = end + 1;
-    with_bytes(words, &line[rest..], buf)
 }
 
-fn with_bytes(words: usize, hex: &[u8], buf: &mut [u8]) -> Record
-    requires { words ≤ 600 }
-    ensures { Within result (length buf.old) }
+impl Error for RecordError {}
+
+// The bytes are put into `buf`.
+pub fn record_of(line: &[u8], buf: &mut [u8]) -> Result<Record, RecordError>
+    ensures words { IfOk result (λ r. r.words ≤ MOST_WORDS) }
+    ensures length { IfOk result (λ r. r.length ≤ length buf.old) }
 {
-    match bytes_of(hex, buf) {
-        Bytes::Spelt(length) => Record::Read { words, length },
-        Bytes::NotSpelt => Record::NoBytes,
-    }
+    let rest = line.strip_prefix(b"R ").ok_or(RecordError::NoLetter)?;
+    let mut parts = rest.splitn(2, |&b| b == b' ');
+    let words = parts
+        .next()
+        .and_then(number_of)
+        .filter(|&words| words <= MOST_WORDS)
+        .ok_or(RecordError::NoWords)?;
+    let length = parts
+        .next()
+        .and_then(|hex| bytes_of(hex, buf))
+        .ok_or(RecordError::NoBytes)?;
+    Ok(Record { words, length })
 }

@@ -1,203 +1,162 @@
--- The dispatch over kinds and the walk over children meet their contracts. Assumes nothing.
-use Rattle.std.proofs.Common.{◌≡◌, ◌+◌, ◌-◌, Bool, true, sym, ap, subst, ◌∙◌, arith}
-use Rattle.meaning.specs.Grammar.{Place, inside, rings, geometries}
-use Rattle.meaning.specs.Answer.{answered}
-use Rattle.meaning.specs.Reading.{forest}
+-- The dispatch over kinds and the walk over siblings meet their contracts. Assumes nothing.
+use Rattle.std.proofs.Common.{◌+◌, sym, ap, subst, ◌∙◌, arith}
+use Rattle.std.proofs.lemmas.Result.{err_from_is_err_and}
+use Rattle.meaning.specs.Grammar.{Place, holds_coordinates}
 use Rattle.reader.specs.declared.geometry.Head.{Head}
-use Rattle.reader.specs.declared.walk.Walk.{Walk}
-use Rattle.reader.specs.Asks.{asks_of, head_meant}
-use Rattle.reader.specs.Walk.{State, Room, whole, walked}
+use Rattle.reader.specs.Asks.{place_of}
+use Rattle.reader.specs.Walk.{State, Room}
 use Rattle.reader.proofs.Known.{bytes_known}
+use Rattle.reader.proofs.There.{num_within}
 use Rattle.reader.proofs.Walks.{turn, turned_away, none_left, onward}
-use Rattle.reader.proofs.Closings.{parent_2, close_whole, closable}
-use Rattle.reader.proofs.Geometries.{refused_head, opened_whole, room_inside, opens, kind_same, parents, rings_inside}
+use Rattle.reader.proofs.Closings.{count_refused, children_refused, closed_whole, closable}
+use Rattle.reader.proofs.Geometries.{refused_head, by_body, room_level, room_inside, opens, lines, parents}
 use Rattle.reader.proofs.+geometry_collection.Goals as goal
+
+-- a header that is refused
+pub geometry::geometry-returns-in_err-head : goal.geometry::geometry-returns-in_err-head
+geometry::geometry-returns-in_err-head g t c =
+    let a = c.args in
+    let p = err_from_is_err_and c.from_residual.result c.from_residual.ensures.1 in
+    rw (p.1, p.2) (refused_head a.buf.now c.type_inv.buf (place_of a.place) a.level a.spot.at.0 c.requires.1 g.R.Rows.listed a.rows.now a.spot.row.0 _ _ c.in_err-head.ensures)
 
 -- a Point
 pub geometry::geometry-point-requires : goal.geometry::geometry-point-requires
-geometry::geometry-point-requires t c =
+geometry::geometry-point-requires g t c =
     let a = c.args in
-    let p = c.requires in
-    let o = opens a.buf.now c.type_inv.buf (asks_of a.parent) a.level a.at.0 c.in-Opens.is c.header-answer.ensures in
-    (p.0, p.1, omega (arith, o.onward), o.within, omega (arith, p.2.1), c.if-kind-eq1.true)
+    let o = opens a.buf.now c.type_inv.buf (place_of a.place) a.level a.spot.at.0 c.in_ok-head.ensures in
+    (c.requires.0, o.onward, room_level (place_of a.place) a.level c.requires.1, c.in-Point.is)
 
-pub geometry::geometry-returns-then-kind-eq1 : goal.geometry::geometry-returns-then-kind-eq1
-geometry::geometry-returns-then-kind-eq1 t c =
+pub geometry::geometry-returns-in-Point : goal.geometry::geometry-returns-in-Point
+geometry::geometry-returns-in-Point g t c =
     let a = c.args in
-    let p = c.requires in
-    let b = bytes_known a.buf.now c.type_inv.buf in
-    let hd = c.in-Opens.head in
-    let o = opens a.buf.now c.type_inv.buf (asks_of a.parent) a.level a.at.0 c.in-Opens.is c.header-answer.ensures in
-    c.point.ensures o.h o.heads ∙ opened_whole a.buf.now b (asks_of a.parent) a.level a.at.0 p.2 a.old.now a.out.now a.row.0 hd o
+    by_body a.buf.now c.type_inv.buf (place_of a.place) a.level a.spot.at.0 c.requires.1 g.R.Rows.listed a.rows.now a.spot.row.0 c.in_ok-head.ensures c.point.ensures
 
--- a LineString
+-- a LineString or a ring
 pub geometry::geometry-line_string-requires : goal.geometry::geometry-line_string-requires
-geometry::geometry-line_string-requires t c =
+geometry::geometry-line_string-requires g t c =
     let a = c.args in
-    let p = c.requires in
-    let o = opens a.buf.now c.type_inv.buf (asks_of a.parent) a.level a.at.0 c.in-Opens.is c.header-answer.ensures in
-    (p.0, p.1, omega (arith, o.onward), o.within, omega (arith, p.2.1), omega (arith, c.if-kind-eq2.true), c.if-kind-eq1.false)
+    let o = opens a.buf.now c.type_inv.buf (place_of a.place) a.level a.spot.at.0 c.in_ok-head.ensures in
+    let k = lines c.in_ok-head.head.kind c.in-Ring.is in
+    (c.requires.0, o.onward, room_level (place_of a.place) a.level c.requires.1, k.0, k.1)
 
-pub geometry::geometry-returns-then-kind-eq2 : goal.geometry::geometry-returns-then-kind-eq2
-geometry::geometry-returns-then-kind-eq2 t c =
+pub geometry::geometry-returns-in-Ring : goal.geometry::geometry-returns-in-Ring
+geometry::geometry-returns-in-Ring g t c =
     let a = c.args in
-    let p = c.requires in
-    let b = bytes_known a.buf.now c.type_inv.buf in
-    let hd = c.in-Opens.head in
-    let o = opens a.buf.now c.type_inv.buf (asks_of a.parent) a.level a.at.0 c.in-Opens.is c.header-answer.ensures in
-    c.line_string.ensures o.h o.heads ∙ opened_whole a.buf.now b (asks_of a.parent) a.level a.at.0 p.2 a.old.now a.out.now a.row.0 hd o
+    by_body a.buf.now c.type_inv.buf (place_of a.place) a.level a.spot.at.0 c.requires.1 g.R.Rows.listed a.rows.now a.spot.row.0 c.in_ok-head.ensures c.line_string.ensures
 
--- no count
-pub geometry::geometry-overflow_sub-buf : goal.geometry::geometry-overflow_sub-buf
-geometry::geometry-overflow_sub-buf t c =
+-- a parent with no count
+pub geometry::geometry-returns-in_err-count-in_default :
+    goal.geometry::geometry-returns-in_err-count-in_default
+geometry::geometry-returns-in_err-count-in_default g t c =
     let a = c.args in
-    let o = opens a.buf.now c.type_inv.buf (asks_of a.parent) a.level a.at.0 c.in-Opens.is c.header-answer.ensures in
-    o.within
+    let hd = c.in_ok-head.head in
+    let k = parents hd.kind c.in_default.not-Ring c.in_default.not-Point c.in_default.not-LineString in
+    let p = err_from_is_err_and c.from_residual-in_err-count-in_default.result c.from_residual-in_err-count-in_default.ensures.1 in
+    rw (p.1, p.2)
+    (by_body a.buf.now c.type_inv.buf (place_of a.place) a.level a.spot.at.0 c.requires.1 g.R.Rows.listed a.rows.now a.spot.row.0 c.in_ok-head.ensures
+    (λ h heads. count_refused a.buf.now (bytes_known a.buf.now c.type_inv.buf) g.R.Rows.listed a.rows.now a.spot.row.0 a.level a.spot.at.0 hd h heads k _ _ c.in_err-count-in_default.ensures))
 
-pub geometry::geometry-returns-then-buf-next-lt4 : goal.geometry::geometry-returns-then-buf-next-lt4
-geometry::geometry-returns-then-buf-next-lt4 t c =
+pub geometry::geometry-overflow_add-body : goal.geometry::geometry-overflow_add-body
+geometry::geometry-overflow_add-body g t c =
+    let hd = c.in_ok-head.head in
+    let four = num_within c.args.buf.now hd.next hd.order c.in_ok-count-in_default.ensures in
+    omega arith
+
+pub geometry::geometry-overflow_add-first : goal.geometry::geometry-overflow_add-first
+geometry::geometry-overflow_add-first g t c =
     let a = c.args in
-    let p = c.requires in
-    let b = bytes_known a.buf.now c.type_inv.buf in
-    let hd = c.in-Opens.head in
-    let o = opens a.buf.now c.type_inv.buf (asks_of a.parent) a.level a.at.0 c.in-Opens.is c.header-answer.ensures in
-    let three = parents o c.if-kind-eq1.false c.if-kind-eq2.false in
-    ap (whole a.old.now a.row.0 a.level a.at.0 true a.out.now) (parent_2 a.buf.now o.h a.level hd.next.0 0 (omega (arith, three, kind_same o)) c.if-buf-next-lt4.true)
-    ∙ opened_whole a.buf.now b (asks_of a.parent) a.level a.at.0 p.2 a.old.now a.out.now a.row.0 hd o
+    let hd = c.in_ok-head.head in
+    let o = opens a.buf.now c.type_inv.buf (place_of a.place) a.level a.spot.at.0 c.in_ok-head.ensures in
+    let four = num_within a.buf.now hd.next hd.order c.in_ok-count-in_default.ensures in
+    omega (arith, o.onward, a.spot.rows)
 
--- rings
-pub geometry::geometry-overflow_add-row : goal.geometry::geometry-overflow_add-row
-geometry::geometry-overflow_add-row t c =
+pub geometry::geometry-invariant_of-first : goal.geometry::geometry-invariant_of-first
+geometry::geometry-invariant_of-first g t c =
     let a = c.args in
-    let p = c.requires in
-    let o = opens a.buf.now c.type_inv.buf (asks_of a.parent) a.level a.at.0 c.in-Opens.is c.header-answer.ensures in
-    omega (arith, o.onward, o.within, p.0, p.1)
+    let o = opens a.buf.now c.type_inv.buf (place_of a.place) a.level a.spot.at.0 c.in_ok-head.ensures in
+    record { rows = omega (arith, o.onward, a.spot.rows) }
 
-pub geometry::geometry-rings-below-requires : goal.geometry::geometry-rings-below-requires
-geometry::geometry-rings-below-requires t c =
+-- its children
+pub geometry::geometry-collection-requires : goal.geometry::geometry-collection-requires
+geometry::geometry-collection-requires g t c κs within =
     let a = c.args in
-    let p = c.requires in
-    let o = opens a.buf.now c.type_inv.buf (asks_of a.parent) a.level a.at.0 c.in-Opens.is c.header-answer.ensures in
-    (p.0, omega (arith, o.onward, p.1), omega (arith, o.within, c.if-buf-next-lt4.false), omega (arith, p.2.1))
+    let hd = c.in_ok-head.head in
+    let o = opens a.buf.now c.type_inv.buf (place_of a.place) a.level a.spot.at.0 c.in_ok-head.ensures in
+    let k = parents hd.kind c.in_default.not-Ring c.in_default.not-Point c.in_default.not-LineString in
+    let four = num_within a.buf.now hd.next hd.order c.in_ok-count-in_default.ensures in
+    let room = room_inside (place_of a.place) a.level o.h c.requires.1 o.holds (ap (λ (x : Head). holds_coordinates x.kind) o.heads.same ∙ k) in
+    (omega (arith, o.onward, c.decreases), (within, (c.requires.0, subst (λ (x : Place). Room x (a.level + 1)) (c.inside.ensures o.h o.heads.same) room)))
 
+pub geometry::geometry-returns-in_err-behind-in_default :
+    goal.geometry::geometry-returns-in_err-behind-in_default
+geometry::geometry-returns-in_err-behind-in_default g t c =
+    let a = c.args in
+    let hd = c.in_ok-head.head in
+    let k = parents hd.kind c.in_default.not-Ring c.in_default.not-Point c.in_default.not-LineString in
+    let p = err_from_is_err_and c.from_residual-in_err-behind-in_default.result c.from_residual-in_err-behind-in_default.ensures.1 in
+    rw (p.1, p.2)
+    (by_body a.buf.now c.type_inv.buf (place_of a.place) a.level a.spot.at.0 c.requires.1 g.R.Rows.listed a.rows.now a.spot.row.0 c.in_ok-head.ensures
+    (λ h heads.
+    children_refused a.buf.now (bytes_known a.buf.now c.type_inv.buf) g.R.Rows.listed a.rows.now a.spot.row.0 a.level a.spot.at.0 hd h heads k _ c.in_ok-count-in_default.ensures
+    _ (c.inside.ensures h heads.same) _ _ c.in_err-behind-in_default.ensures))
+
+-- its own row
 pub geometry::geometry-close-requires : goal.geometry::geometry-close-requires
-geometry::geometry-close-requires t c =
+geometry::geometry-close-requires g t c =
     let a = c.args in
-    let p = c.requires in
-    let b = bytes_known a.buf.now c.type_inv.buf in
-    let hd = c.in-Opens.head in
-    let o = opens a.buf.now c.type_inv.buf (asks_of a.parent) a.level a.at.0 c.in-Opens.is c.header-answer.ensures in
-    let three = parents o c.if-kind-eq1.false c.if-kind-eq2.false in
-    let pl = rings_inside o c.if-kind-eq3.true in
-    closable a.buf.now b a.old.now a.out.now a.row.0 a.level a.at.0 c.read_u32-count.result hd o.h o.heads three c.if-buf-next-lt4.false c.read_u32-count.ensures (rings hd.order hd.dimension) pl c.rings-below.result c.rings-below.new.out c.rings-below.ensures p.0 (omega (arith, o.kind)) (omega (arith, p.2.1)) (omega (arith, o.onward, o.within, p.0))
+    let hd = c.in_ok-head.head in
+    let o = opens a.buf.now c.type_inv.buf (place_of a.place) a.level a.spot.at.0 c.in_ok-head.ensures in
+    let k = parents hd.kind c.in_default.not-Ring c.in_default.not-Point c.in_default.not-LineString in
+    let four = num_within a.buf.now hd.next hd.order c.in_ok-count-in_default.ensures in
+    let lv = room_level (place_of a.place) a.level c.requires.1 in
+    let e = c.in_ok-behind-in_default.behind in
+    closable a.buf.now (bytes_known a.buf.now c.type_inv.buf) g.R.Rows.listed a.rows.now a.spot.row.0 a.level a.spot.at.0 hd o.h o.heads k _ c.in_ok-count-in_default.ensures
+    _ (c.inside.ensures o.h o.heads.same) (e.at.0, e.row.0, c.collection.new.rows) c.in_ok-behind-in_default.ensures (omega arith) c.requires.0 (omega arith)
 
-pub geometry::geometry-returns-then-kind-eq3 : goal.geometry::geometry-returns-then-kind-eq3
-geometry::geometry-returns-then-kind-eq3 t c =
+pub geometry::geometry-returns-in_ok-behind-in_default :
+    goal.geometry::geometry-returns-in_ok-behind-in_default
+geometry::geometry-returns-in_ok-behind-in_default g t c =
     let a = c.args in
-    let p = c.requires in
-    let b = bytes_known a.buf.now c.type_inv.buf in
-    let hd = c.in-Opens.head in
-    let o = opens a.buf.now c.type_inv.buf (asks_of a.parent) a.level a.at.0 c.in-Opens.is c.header-answer.ensures in
-    let three = parents o c.if-kind-eq1.false c.if-kind-eq2.false in
-    let pl = rings_inside o c.if-kind-eq3.true in
-    c.close.ensures
-    ∙ close_whole a.buf.now b a.old.now a.out.now a.row.0 a.level a.at.0 c.read_u32-count.result hd o.h o.heads three c.if-buf-next-lt4.false c.read_u32-count.ensures (rings hd.order hd.dimension) pl c.rings-below.result c.rings-below.new.out c.rings-below.ensures
-    ∙ opened_whole a.buf.now b (asks_of a.parent) a.level a.at.0 p.2 a.old.now a.out.now a.row.0 hd o
+    let hd = c.in_ok-head.head in
+    let k = parents hd.kind c.in_default.not-Ring c.in_default.not-Point c.in_default.not-LineString in
+    let e = c.in_ok-behind-in_default.behind in
+    rw (c.close.ensures.0, c.close.ensures.1)
+    (by_body a.buf.now c.type_inv.buf (place_of a.place) a.level a.spot.at.0 c.requires.1 g.R.Rows.listed a.rows.now a.spot.row.0 c.in_ok-head.ensures
+    (λ h heads.
+    closed_whole a.buf.now (bytes_known a.buf.now c.type_inv.buf) g.R.Rows.listed a.rows.now a.spot.row.0 a.level a.spot.at.0 hd h heads k _ c.in_ok-count-in_default.ensures
+    _ (c.inside.ensures h heads.same) (e.at.0, e.row.0, c.collection.new.rows) c.in_ok-behind-in_default.ensures))
 
--- full geometries
-pub geometry::geometry-overflow_add-row-in-Opens : goal.geometry::geometry-overflow_add-row-in-Opens
-geometry::geometry-overflow_add-row-in-Opens t c =
+-- siblings
+pub geometry_collection::collection-returns-in_err-spot :
+    goal.geometry_collection::collection-returns-in_err-spot
+geometry_collection::collection-returns-in_err-spot g t c =
+    let l = c.loop in
     let a = c.args in
-    let p = c.requires in
-    let o = opens a.buf.now c.type_inv.buf (asks_of a.parent) a.level a.at.0 c.in-Opens.is c.header-answer.ensures in
-    omega (arith, o.onward, o.within, p.0, p.1)
+    let p = err_from_is_err_and c.from_residual.result c.from_residual.ensures.1 in
+    rw (p.1, p.2)
+    (turned_away g.R.Rows.listed g.R.Rows.any_order a.level a.buf.now (bytes_known a.buf.now c.type_inv.buf) (place_of a.place) a.count l.counter l.spot.row.0 l.spot.at.0 l.rows c.loop-test.true
+    _ _ c.in_err-spot.ensures
+    ∙ l.invariant.rest)
 
-pub geometry::geometry-parent_of-requires : goal.geometry::geometry-parent_of-requires
-geometry::geometry-parent_of-requires t c =
-    let a = c.args in
-    let o = opens a.buf.now c.type_inv.buf (asks_of a.parent) a.level a.at.0 c.in-Opens.is c.header-answer.ensures in
-    omega (arith, o.kind, c.if-kind-eq1.false, c.if-kind-eq2.false, c.if-kind-eq3.false)
-
-pub geometry::geometry-collection-below-requires : goal.geometry::geometry-collection-below-requires
-geometry::geometry-collection-below-requires t c =
-    let a = c.args in
-    let p = c.requires in
-    let b = bytes_known a.buf.now c.type_inv.buf in
-    let hd = c.in-Opens.head in
-    let o = opens a.buf.now c.type_inv.buf (asks_of a.parent) a.level a.at.0 c.in-Opens.is c.header-answer.ensures in
-    let three = parents o c.if-kind-eq1.false c.if-kind-eq2.false in
-    let pl : inside o.h ≡ geometries (asks_of c.parent_of.result) = c.parent_of.ensures o.h (kind_same o) (ap (λ (x : Head). x.dimension) o.heads.same) in (
-      omega (arith, o.onward, o.within, p.0, c.decreases, c.if-buf-next-lt4.false),
-      (p.0, omega (arith, o.onward, p.1), subst (λ (x : Place). Room x (a.level + 1)) pl (room_inside a.buf.now b (asks_of a.parent) a.level a.at.0 p.2 hd o three)),
-    )
-
-pub geometry::geometry-close-requires-in-Opens : goal.geometry::geometry-close-requires-in-Opens
-geometry::geometry-close-requires-in-Opens t c =
-    let a = c.args in
-    let p = c.requires in
-    let b = bytes_known a.buf.now c.type_inv.buf in
-    let hd = c.in-Opens.head in
-    let o = opens a.buf.now c.type_inv.buf (asks_of a.parent) a.level a.at.0 c.in-Opens.is c.header-answer.ensures in
-    let three = parents o c.if-kind-eq1.false c.if-kind-eq2.false in
-    let pl : inside o.h ≡ geometries (asks_of c.parent_of.result) = c.parent_of.ensures o.h (kind_same o) (ap (λ (x : Head). x.dimension) o.heads.same) in
-    closable a.buf.now b a.old.now a.out.now a.row.0 a.level a.at.0 c.read_u32-count.result hd o.h o.heads three c.if-buf-next-lt4.false c.read_u32-count.ensures (geometries (asks_of c.parent_of.result)) pl c.collection-below.result c.collection-below.new.out c.collection-below.ensures p.0 (omega (arith, o.kind)) (omega (arith, p.2.1)) (omega (arith, o.onward, o.within, p.0))
-
-pub geometry::geometry-returns-else-kind-eq3 : goal.geometry::geometry-returns-else-kind-eq3
-geometry::geometry-returns-else-kind-eq3 t c =
-    let a = c.args in
-    let p = c.requires in
-    let b = bytes_known a.buf.now c.type_inv.buf in
-    let hd = c.in-Opens.head in
-    let o = opens a.buf.now c.type_inv.buf (asks_of a.parent) a.level a.at.0 c.in-Opens.is c.header-answer.ensures in
-    let three = parents o c.if-kind-eq1.false c.if-kind-eq2.false in
-    let pl : inside o.h ≡ geometries (asks_of c.parent_of.result) = c.parent_of.ensures o.h (kind_same o) (ap (λ (x : Head). x.dimension) o.heads.same) in
-    c.close-in-Opens.ensures
-    ∙ close_whole a.buf.now b a.old.now a.out.now a.row.0 a.level a.at.0 c.read_u32-count.result hd o.h o.heads three c.if-buf-next-lt4.false c.read_u32-count.ensures (geometries (asks_of c.parent_of.result)) pl c.collection-below.result c.collection-below.new.out c.collection-below.ensures
-    ∙ opened_whole a.buf.now b (asks_of a.parent) a.level a.at.0 p.2 a.old.now a.out.now a.row.0 hd o
-
--- a header that is refused
-pub geometry::geometry-returns-in-Refused : goal.geometry::geometry-returns-in-Refused
-geometry::geometry-returns-in-Refused t c =
-    let a = c.args in
-    refused_head a.buf.now (bytes_known a.buf.now c.type_inv.buf) (asks_of a.parent) a.level a.at.0 c.requires.2 a.old.now a.out.now a.row.0 _ _ (ap head_meant (sym c.in-Refused.is) ∙ c.header-answer.ensures)
-
-pub geometry_collection::collection-returns-in-Refused :
-    goal.geometry_collection::collection-returns-in-Refused
-geometry_collection::collection-returns-in-Refused t c =
-    let l = c.loop-i in
+pub geometry_collection::collection-loop-preserved :
+    goal.geometry_collection::collection-loop-preserved
+geometry_collection::collection-loop-preserved g t c =
+    let l = c.loop in
     let a = c.args in
     let b = bytes_known a.buf.now c.type_inv.buf in
-    turned_away a.old.now a.level a.buf.now b (geometries (asks_of a.parent)) a.count l.i l.q l.p l.all l.out
-    c.loop-i-test.true _ _ (ap (λ (w : Walk). walked w c.geometry.new.out) (sym c.in-Refused.is) ∙ c.geometry.ensures)
-    ∙ l.invariant.rest
-
-pub geometry_collection::collection-loop-i-preserved :
-    goal.geometry_collection::collection-loop-i-preserved
-geometry_collection::collection-loop-i-preserved t c =
-    let l = c.loop-i in
-    let a = c.args in
-    let b = bytes_known a.buf.now c.type_inv.buf in
-    let d = c.in-Done in
-    let o = c.geometry.new.out in
-    let st : State = (d.next.0, d.last.0, d.same, o) in
-    let read : answered st ≡ whole a.old.now l.q a.level l.p true l.out (forest a.buf.now 19 1 (geometries (asks_of a.parent)) a.level l.p) =
-    ap (λ (w : Walk). walked w o) (sym d.is) ∙ c.geometry.ensures in
-    let f = onward a.old.now a.level a.buf.now b (geometries (asks_of a.parent)) 1 l.q l.p l.out st read l.invariant.rows in
+    let e = c.in_ok-spot.spot in
+    let st : State g.row.R.Denot = (e.at.0, e.row.0, c.geometry.new.rows) in
+    let further = onward g.R.Rows.listed g.R.Rows.any_order a.level a.buf.now b (place_of a.place) 1 l.spot.row.0 l.spot.at.0 l.rows st c.in_ok-spot.ensures in
     record {
-      within = omega arith;
-      rows = f.1;
-      onward = omega (arith, f.0, l.invariant.onward);
+      onward = omega (arith, further, l.invariant.onward);
       rest =
-          ap (λ (u : Bool). whole a.old.now st.1 a.level st.0 u o (forest a.buf.now 19 (a.count - (l.i + 1)) (geometries (asks_of a.parent)) a.level st.0)) c.both-all.ensures
-          ∙ sym (turn a.old.now a.level a.buf.now b (geometries (asks_of a.parent)) a.count l.i l.q l.p l.all l.out c.loop-i-test.true st read)
+          sym (turn g.R.Rows.listed g.R.Rows.any_order a.level a.buf.now b (place_of a.place) a.count l.counter l.spot.row.0 l.spot.at.0 l.rows c.loop-test.true st c.in_ok-spot.ensures)
           ∙ l.invariant.rest;
     }
 
 pub geometry_collection::collection-returns : goal.geometry_collection::collection-returns
-geometry_collection::collection-returns t c =
-    let l = c.loop-i in
+geometry_collection::collection-returns g t c =
+    let l = c.loop in
     let a = c.args in
-    let b = bytes_known a.buf.now c.type_inv.buf in
-    none_left a.old.now a.level a.buf.now b (geometries (asks_of a.parent)) a.count l.i l.q l.p l.all l.out
-    c.loop-i-test.false
+    none_left g.R.Rows.listed g.R.Rows.any_order a.level a.buf.now (bytes_known a.buf.now c.type_inv.buf) (place_of a.place) a.count l.counter l.spot.row.0 l.spot.at.0 l.rows c.loop-test.false
     ∙ l.invariant.rest

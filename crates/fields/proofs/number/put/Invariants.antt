@@ -1,8 +1,7 @@
+use Rattle.std.proofs.Common.{not, nat_eq}
+use Rattle.fields.specs.Place.{order_if}
 use Rattle.fields.proofs.Digits.{Put}
 use Rattle.fields.proofs.number.put.Given as goal
 
 abbrev pub invariant-loop-n : goal.invariant-loop-n
-invariant-loop-n l = Put l.order l.at l.width l.x l.initial.s l.y l.n l.s
-
-abbrev pub decreases-loop-n : goal.decreases-loop-n
-decreases-loop-n l = l.n
+invariant-loop-n g l = Put (order_if (not (nat_eq g.row.BIG 0))) l.at g.row.W l.x l.initial.s l.y l.n l.s

@@ -1,41 +1,54 @@
 -- Each way out, in the order of the tests. Assumes nothing.
-use Rattle.std.proofs.Common.{sym, ap, ◌∙◌, arith}
-use Rattle.meaning.specs.Code.{type_of}
+use Rattle.std.proofs.Common.{sym, ap, ◌∙◌, arith, ◌+◌}
+use Rattle.std.proofs.lemmas.Result.{err_from_is_err_and}
+use Rattle.meaning.specs.Answer.{refusal, type_meant}
 use Rattle.meaning.specs.Reading.{order_of}
-use Rattle.meaning.specs.Answer.{type_meant}
 use Rattle.reader.specs.Asks.{asks_of}
 use Rattle.reader.proofs.Headers.{no_order, bad_order, no_code, bad_code, good_code}
+use Rattle.reader.proofs.There.{there_good, there_past, num_within}
 use Rattle.reader.proofs.geometry.header.Goals as goal
 
-pub returns-then-buf-start : goal.returns-then-buf-start
-returns-then-buf-start c =
+pub returns-in_err-there : goal.returns-in_err-there
+returns-in_err-there c =
     let a = c.args in
-    no_order a.buf.now (asks_of a.parent) a.level a.at.0 c.if-buf-start.true
+    let p = err_from_is_err_and c.from_residual.result c.from_residual.ensures.1 in
+    let (lt, e) = there_past a.buf.now a.at 1 c.in_err-there.ensures in
+    rw (p.1, p.2) (ap refusal (sym e) ∙ no_order a.buf.now (asks_of a.parent) a.level a.at.0 (omega arith))
 
-pub returns-then-x-gt1 : goal.returns-then-x-gt1
-returns-then-x-gt1 c =
+pub returns-then-byte-gt1 : goal.returns-then-byte-gt1
+returns-then-byte-gt1 c =
     let a = c.args in
-    bad_order a.buf.now (asks_of a.parent) a.level a.at.0 c.if-buf-start.false (omega (arith, c.byte-x.ensures, c.if-x-gt1.true))
+    let le = there_good a.buf.now a.at 1 c.in_ok-there.ensures in
+    bad_order a.buf.now (asks_of a.parent) a.level a.at.0 (omega arith) c.if-byte-gt1.true
 
-pub returns-then-buf-code_at-lt4 : goal.returns-then-buf-code_at-lt4
-returns-then-buf-code_at-lt4 c =
+pub returns-in_err-read_u32 : goal.returns-in_err-read_u32
+returns-in_err-read_u32 c =
     let a = c.args in
-    no_code a.buf.now (asks_of a.parent) a.level a.at.0 c.if-buf-start.false (omega (arith, c.byte-x.ensures, c.if-x-gt1.false)) c.if-buf-code_at-lt4.true
+    let p = err_from_is_err_and c.from_residual-in_err-read_u32.result c.from_residual-in_err-read_u32.ensures.1 in
+    let le = there_good a.buf.now a.at 1 c.in_ok-there.ensures in
+    rw (p.1, p.2)
+    (no_code a.buf.now (asks_of a.parent) a.level a.at.0 (omega arith) (omega (arith, c.if-byte-gt1.false)) c.order_of-order.result
+    (c.order_of-order.ensures ∙ ap order_of c.from.ensures) _ _ c.in_err-read_u32.ensures)
 
-pub returns-in-NotAllowed : goal.returns-in-NotAllowed
-returns-in-NotAllowed c =
+pub opened-requires : goal.opened-requires
+opened-requires c =
     let a = c.args in
-    bad_code a.buf.now (asks_of a.parent) a.level a.at.0 c.if-buf-start.false (omega (arith, c.byte-x.ensures, c.if-x-gt1.false)) _
-    (c.order_of-order.ensures ∙ ap order_of c.byte-x.ensures)
-    c.if-buf-code_at-lt4.false
-    (ap type_of (sym c.read_u32.ensures) ∙ sym c.type_of-answer.ensures ∙ ap type_meant c.in-NotAllowed.is)
+    let w = num_within a.buf.now (record { 0 = a.at.0 + 1 }) c.order_of-order.result c.in_ok-read_u32.ensures in
+    omega arith
 
-pub returns-in-Known : goal.returns-in-Known
-returns-in-Known c =
+pub returns-in-None : goal.returns-in-None
+returns-in-None c =
     let a = c.args in
-    c.opened.ensures _
-    ∙ good_code a.buf.now (asks_of a.parent) a.level a.at.0 c.if-buf-start.false (omega (arith, c.byte-x.ensures, c.if-x-gt1.false)) _
-    (c.order_of-order.ensures ∙ ap order_of c.byte-x.ensures)
-    c.if-buf-code_at-lt4.false
-    _
-    (ap type_of (sym c.read_u32.ensures) ∙ sym c.type_of-answer.ensures ∙ ap type_meant c.in-Known.is)
+    let le = there_good a.buf.now a.at 1 c.in_ok-there.ensures in
+    bad_code a.buf.now (asks_of a.parent) a.level a.at.0 (omega arith) (omega (arith, c.if-byte-gt1.false)) c.order_of-order.result
+    (c.order_of-order.ensures ∙ ap order_of c.from.ensures) _ c.in_ok-read_u32.ensures
+    (sym (ap type_meant (sym c.in-None.is) ∙ c.type_of.ensures))
+
+pub returns-in-Some : goal.returns-in-Some
+returns-in-Some c =
+    let a = c.args in
+    let le = there_good a.buf.now a.at 1 c.in_ok-there.ensures in
+    c.opened.ensures c.in_ok-read_u32.field-0
+    ∙ good_code a.buf.now (asks_of a.parent) a.level a.at.0 (omega arith) (omega (arith, c.if-byte-gt1.false)) c.order_of-order.result
+    (c.order_of-order.ensures ∙ ap order_of c.from.ensures) _ c.in_ok-read_u32.ensures c.in-Some.t
+    (sym (ap type_meant (sym c.in-Some.is) ∙ c.type_of.ensures))

@@ -1,17 +1,27 @@
--- Each way out: no ordinates, or one row. Assumes nothing.
+use Rattle.std.proofs.Common.{ap, sym, ◌∙◌}
+use Rattle.std.proofs.lemmas.Result.{err_from_is_err_and}
+use Rattle.meaning.specs.Answer.{refusal}
 use Rattle.reader.proofs.Known.{bytes_known}
+use Rattle.reader.proofs.There.{there_good, there_past}
 use Rattle.reader.proofs.Leaves.{point_2, point_row}
 use Rattle.reader.proofs.point.point.Goals as goal
 
-pub returns-then-buf-body : goal.returns-then-buf-body
-returns-then-buf-body c h g =
+pub returns-in_err-there : goal.returns-in_err-there
+returns-in_err-there g c =
     let a = c.args in
-    point_2 a.buf.now (bytes_known a.buf.now c.type_inv.buf) a.old.now a.out.now a.row.0 a.level a.at.0 a.head h g
-    c.requires.5 c.size-ordinates.result c.size-ordinates.ensures c.if-buf-body.true
+    let q = c.requires in
+    let p = err_from_is_err_and c.from_residual.result c.from_residual.ensures.1 in
+    let (lt, e) = there_past a.buf.now a.head.next _ c.in_err-there.ensures in
+    λ h heads. rw (p.1, p.2)
+    (ap refusal (sym e)
+    ∙ point_2 a.buf.now (bytes_known a.buf.now c.type_inv.buf) g.R.Rows.listed a.rows.now a.spot.row.0 a.level a.spot.at.0 a.head h heads q.3
+    c.size-ordinates.result c.size-ordinates.ensures lt)
 
 pub returns : goal.returns
-returns c h g =
+returns g c =
     let a = c.args in
-    point_row a.buf.now (bytes_known a.buf.now c.type_inv.buf) a.old.now a.out.now a.row.0 a.level a.at.0 a.head h g
-    c.requires.5 c.size-ordinates.result c.size-ordinates.ensures c.if-buf-body.false c.point_count-count.result c.point_count-count.ensures c.row_of-f.result
-    c.list_row.result c.list_row.new.out c.row_of-f.ensures c.list_row.ensures.0 c.list_row.ensures.1
+    let q = c.requires in
+    let le = there_good a.buf.now a.head.next _ c.in_ok-there.ensures in
+    λ h heads. rw (c.close.ensures.0, c.close.ensures.1)
+    (point_row a.buf.now (bytes_known a.buf.now c.type_inv.buf) g.R.Rows.listed a.rows.now a.spot.row.0 a.level a.spot.at.0 a.head h heads q.3
+    c.size-ordinates.result c.point_count-count.result c.size-ordinates.ensures le c.point_count-count.ensures)

@@ -1,7 +1,0 @@
-use Rattle.std.proofs.Common.{arith}
-use Rattle.meaning.specs.Table.{sum, pack}
-use Rattle.fields.proofs.words.word_a.Goals as goal
-
-pub returns : goal.returns
-unfolding pack sum
-returns c = omega arith

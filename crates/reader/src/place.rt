@@ -1,0 +1,60 @@
+// Where siblings stand, and what that asks of each: made from their parent in one place, and tested in one place.
+ghost use Rattle.std.specs.Prelude.{◌≡◌};
+ghost use Rattle.meaning.specs.Grammar.{Header, inside, fits, srid_fits, too_deep};
+ghost use Rattle.reader.specs.Asks.{asks_of, head_of, place_of};
+
+use crate::geometry::Head;
+use meaning::{Dimension, Endianness, Kind, WkbType};
+
+#[derive(Clone, Copy, Debug, PartialEq, Eq)]
+pub enum Parent {
+    NoParent,
+    // kinds 4 to 6: the kind and dimension of each child
+    Multi(Kind, Dimension),
+    Collection,
+}
+
+#[derive(Clone, Copy, Debug, PartialEq, Eq)]
+pub enum Place {
+    // rings have their polygon's order and dimension
+    Rings(Endianness, Dimension),
+    Geometries(Parent),
+}
+
+// Where the children of a geometry of kind 3 to 7 stand.
+#[tactic(auto, unfolding(meaning::specs::Grammar::inside))]
+pub fn inside(head: Head) -> Place
+    ensures { (h : Header) → head_of h head.next.0 ≡ head → inside h ≡ place_of result }
+{
+    match head.kind {
+        Kind::Polygon => Place::Rings(head.order, head.dimension),
+        Kind::MultiPoint => Place::Geometries(Parent::Multi(Kind::Point, head.dimension)),
+        Kind::MultiLineString => Place::Geometries(Parent::Multi(Kind::LineString, head.dimension)),
+        Kind::MultiPolygon => Place::Geometries(Parent::Multi(Kind::Polygon, head.dimension)),
+        _ => Place::Geometries(Parent::Collection),
+    }
+}
+
+// Whether the kind and dimension fit.
+pub fn child_fits(parent: Parent, t: WkbType) -> bool
+    ensures { result ≡ fits (asks_of parent) t }
+{
+    match parent {
+        Parent::Multi(kind, dimension) => t.kind == kind && t.dimension == dimension,
+        Parent::NoParent | Parent::Collection => true,
+    }
+}
+
+// Whether an SRID may stand there, if there is one.
+pub fn srid_fits(parent: Parent, t: WkbType) -> bool
+    ensures { result ≡ srid_fits (asks_of parent) t }
+{
+    parent == Parent::NoParent || !t.srid
+}
+
+// A collection stands at most at level 15.
+pub fn too_deep(level: usize, t: WkbType) -> bool
+    ensures { result ≡ too_deep level t }
+{
+    t.kind == Kind::GeometryCollection && 16 <= level
+}
