@@ -1,6 +1,6 @@
 // The line of output for a line of input.
 use crate::line::code_of;
-use fields::code::{kind_number, type_of};
+use fields::code::type_of;
 use meaning::WkbType;
 use std::fmt;
 
@@ -25,7 +25,7 @@ fn describe_code<W: fmt::Write>(code: u32, out: &mut W) -> fmt::Result {
         dimension,
         srid,
     } = t;
-    let number = kind_number(kind);
+    let number = usize::from(kind);
     let srid = if srid { "srid" } else { "no srid" };
     writeln!(out, "{code:08X} {number} {kind} {dimension} {srid}")
 }

@@ -1,9 +1,8 @@
 // Type codes and dimensions.
-ghost use Rattle.std.specs.Prelude.{◌≡◌, ◌≤◌, ◌&&◌, cond, leb, Some, None};
+ghost use Rattle.std.specs.Prelude.{◌≡◌, ◌&&◌, cond, leb, Some, None};
 ghost use Rattle.meaning.specs.Answer.{type_meant};
-ghost use Rattle.meaning.specs.Number.{order_byte};
 ghost use Rattle.meaning.specs.Reading.{order_of};
-ghost use Rattle.meaning.specs.Code.{kind_number, kind_of, dimension_number, dimension_of, flagged_type, iso_code, iso_type, size, type_of};
+ghost use Rattle.meaning.specs.Code.{kind_of, dimension_of, flagged_type, iso_code, iso_type, size, type_of};
 
 use meaning::{Dimension, Endianness, Kind, WkbType};
 
@@ -78,14 +77,7 @@ pub fn size(d: Dimension) -> usize
 pub fn iso_code(kind: Kind, d: Dimension) -> u32
     ensures { result ≡ iso_code kind d }
 {
-    (1000 * dimension_number(d) + kind_number(kind)) as u32
-}
-
-// 0 to 7. The bound is there for callers that compute with it.
-pub fn kind_number(kind: Kind) -> usize
-    ensures { (result ≡ kind_number kind) × (result ≤ 7) }
-{
-    kind as usize
+    (1000 * usize::from(d) + usize::from(kind)) as u32
 }
 
 pub fn kind_of(k: usize) -> Kind
@@ -103,13 +95,6 @@ pub fn kind_of(k: usize) -> Kind
     }
 }
 
-// 0 to 3. The bound is there for callers that compute with it.
-pub fn dimension_number(d: Dimension) -> usize
-    ensures { (result ≡ dimension_number d) × (result ≤ 3) }
-{
-    d as usize
-}
-
 pub fn dimension_of(k: usize) -> Dimension
     ensures { result ≡ dimension_of k }
 {
@@ -119,13 +104,6 @@ pub fn dimension_of(k: usize) -> Dimension
         2 => Dimension::Xym,
         _ => Dimension::Xyzm,
     }
-}
-
-// 0 big, 1 little.
-pub fn order_byte(order: Endianness) -> usize
-    ensures { (result ≡ order_byte order) × (result ≤ 1) }
-{
-    order as usize
 }
 
 pub fn order_of(x: usize) -> Endianness

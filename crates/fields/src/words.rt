@@ -4,7 +4,7 @@
 ghost use Rattle.std.specs.Prelude.{◌≡◌, ◌<◌};
 ghost use Rattle.meaning.specs.Table.{fields_a, fields_b, word_a, word_b, Fit, fields_of, rows_of, fetch};
 
-use crate::code::{dimension_number, dimension_of, kind_number, kind_of, order_byte, order_of};
+use crate::code::{dimension_of, kind_of, order_of};
 use meaning::{Offset, Row, RowFields};
 
 #[tactic(auto, unfolding(meaning::specs::Table::pack, meaning::specs::Table::sum))]
@@ -12,9 +12,9 @@ pub fn word_a(f: RowFields) -> u64
     requires { Fit (fields_a f) }
     ensures { result ≡ word_a f }
 {
-    let word = kind_number(f.kind) * 0x2000_0000_0000_0000
-        + dimension_number(f.dimension) * 0x0800_0000_0000_0000
-        + order_byte(f.order) * 0x0400_0000_0000_0000
+    let word = usize::from(f.kind) * 0x2000_0000_0000_0000
+        + usize::from(f.dimension) * 0x0800_0000_0000_0000
+        + usize::from(f.order) * 0x0400_0000_0000_0000
         + usize::from(f.srid) * 0x0200_0000_0000_0000
         + f.level * 0x0008_0000_0000_0000
         + f.start.0 * 0x10_0000

@@ -11,12 +11,36 @@ pub enum Endianness {
     LittleEndian,
 }
 
+// 0 big, 1 little. The bound is there for callers that compute with it.
+impl From<Endianness> for usize {
+    ghost use Rattle.std.specs.Prelude.{◌≡◌, ◌≤◌};
+    ghost use Rattle.meaning.specs.Number.{order_byte};
+
+    ghost from_gives = { λ o n. (n ≡ order_byte o) × (n ≤ 1) };
+
+    fn from(order: Endianness) -> usize {
+        order as usize
+    }
+}
+
 #[derive(Clone, Copy, Debug, PartialEq, Eq, Hash)]
 pub enum Dimension {
     Xy,
     Xyz,
     Xym,
     Xyzm,
+}
+
+// 0 to 3. The bound is there for callers that compute with it.
+impl From<Dimension> for usize {
+    ghost use Rattle.std.specs.Prelude.{◌≡◌, ◌≤◌};
+    ghost use Rattle.meaning.specs.Code.{dimension_number};
+
+    ghost from_gives = { λ d n. (n ≡ dimension_number d) × (n ≤ 3) };
+
+    fn from(dimension: Dimension) -> usize {
+        dimension as usize
+    }
 }
 
 impl fmt::Display for Dimension {
@@ -46,6 +70,18 @@ pub enum Kind {
     MultiLineString,
     MultiPolygon,
     GeometryCollection,
+}
+
+// 0 to 7. The bound is there for callers that compute with it.
+impl From<Kind> for usize {
+    ghost use Rattle.std.specs.Prelude.{◌≡◌, ◌≤◌};
+    ghost use Rattle.meaning.specs.Code.{kind_number};
+
+    ghost from_gives = { λ k n. (n ≡ kind_number k) × (n ≤ 7) };
+
+    fn from(kind: Kind) -> usize {
+        kind as usize
+    }
 }
 
 impl fmt::Display for Kind {

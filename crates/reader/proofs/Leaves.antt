@@ -7,12 +7,14 @@ use mathlib.Core.Bool.{Bool, true, false, ◌&&◌, cond}
 use mathlib.Core.List.{List, [], append_assoc}
 use lib.ListN.{length, take, drop, length-append, length-drop}
 use lib.Seq.{length-take-le, take-take}
+use lib.Dec.{leb}
+use borrow.Author.Tests.{leb-true, leb-false}
 use Rattle.meaning.specs.declared.Dimension.{Dimension}
 use Rattle.meaning.specs.declared.Dimension.TheVariants.{Xy, Xyz, Xym, Xyzm}
 use Rattle.meaning.specs.declared.Kind.{Kind}
 use Rattle.meaning.specs.declared.Kind.TheVariants.{Point}
 use Rattle.meaning.specs.declared.RowFields.{RowFields}
-use Rattle.meaning.specs.Number.{Bytes}
+use Rattle.meaning.specs.Number.{Bytes, number_at}
 use Rattle.meaning.specs.Code.{same_kind, size}
 use Rattle.meaning.specs.Grammar.{Header, Ordinates, Forest, empty, first, every, holds_coordinates, front, header_bytes, srid_bytes, count_bytes, ordinate_bytes, bytes, count}
 use Rattle.meaning.specs.Answer.{Answer, refused, answered}
@@ -25,12 +27,13 @@ use Rattle.meaning.proofs.Coordinates.{count_read, sized_read, length_ordinate_b
 use Rattle.meaning.proofs.Bodies.{count_wire}
 use Rattle.meaning.proofs.Sizes.{count_size}
 use Rattle.meaning.proofs.Siblings.{body_of}
-use Rattle.meaning.proofs.Steps.{run_good, run_past}
+use Rattle.meaning.proofs.Steps.{span_good, span_past, num_good, num_past, run_good, run_past}
 use Rattle.fields.proofs.Rows.{fit_a, fit_b}
 use Rattle.reader.specs.declared.geometry.Head.{Head}
 use Rattle.reader.specs.Asks.{head_of, Heads}
+use Rattle.reader.specs.Body.{all_nan, line_body, point_body}
 use Rattle.reader.specs.Rows.{Lists, list_rows}
-use Rattle.reader.specs.Walk.{State, row_from, whole, all_nan}
+use Rattle.reader.specs.Walk.{State, row_from, whole}
 use Rattle.reader.proofs.Nans.{nans_are}
 
 pub front_headed : (h : Header) (n : ℕ) → length (front h n) ≡ length (headed h) + cond (same_kind h.kind Point) 0 4
@@ -135,11 +138,11 @@ module _ (b : List ℕ) (all : Bytes b) {S : Type 0} (list : Lists S) (s : S) (h
 -- ---- in the code's terms
 
 -- what the count is worth in bytes bounds it
-pub count_bound : (d : Dimension) (m n k : ℕ) → m ≡ size d → 8 * m * n ≤ k → n ≤ k
-count_bound Xy m n k e h = omega (arith, rw e at h)
-count_bound Xyz m n k e h = omega (arith, rw e at h)
-count_bound Xym m n k e h = omega (arith, rw e at h)
-count_bound Xyzm m n k e h = omega (arith, rw e at h)
+count_bound : (d : Dimension) (n k : ℕ) → 8 * size d * n ≤ k → n ≤ k
+count_bound Xy n k h = omega arith
+count_bound Xyz n k h = omega arith
+count_bound Xym n k h = omega arith
+count_bound Xyzm n k h = omega arith
 
 -- a row that ends within a readable buffer fits its words
 pub row_fits : (head : Head) (at l body end n s : ℕ) → l < 64 → at ≤ 1048575 → body ≤ 1048575 → end ≤ 1048575 → n ≤ 1048575 → s ≤ 1048575
@@ -148,57 +151,116 @@ row_fits head at l body end n s lv a b c d g =
     let x = row_from head (offset at) l (offset body) (offset end) n s in
     (fit_a x lv (omega arith) (omega arith), fit_b x (omega arith) (omega arith) (omega arith))
 
-module _ (b : List ℕ) (all : Bytes b) {S : Type 0} (list : Lists S) (s : S) (r l at : ℕ) (head : Head) (h : Header) (g : Heads h at head) where
-  -- what holds of the header holds of what the code has of it
-  of_head : (P : Head → Type 0) → P (head_of h head.next.0) → P head
-  of_head P p = subst P g.same p
+-- whether n bytes are there from an offset on
+bytes_there : (b : List ℕ) (at n : ℕ) {R : Type 0} → (length b - at < n → R) → (n ≤ length b - at → R) → R
+bytes_there b at n {R} past good = go (leb n (length b - at)) refl
+  where
+    go : (c : Bool) → leb n (length b - at) ≡ c → R
+    go true e = good (leb-true n (length b - at) e)
+    go false e = past (leb-false n (length b - at) e)
 
+-- what a body of coordinates can come to, by the bytes that are there
+line_cases : (b : List ℕ) (hd : Head) (P : Answer ((ℕ × ℕ) × ℕ) → Type 0) → let n = number_at hd.order 4 b hd.next.0 in let start = hd.next.0 + 4 in
+    (num b hd.order 4 hd.next.0 ≡ refused 2 hd.next.0 → P (refused 2 hd.next.0))
+    → (num b hd.order 4 hd.next.0 ≡ answered (n, start) → length b - start < 8 * size hd.dimension * n → P (refused 2 start))
+    → (num b hd.order 4 hd.next.0 ≡ answered (n, start) → 4 ≤ length b - hd.next.0 → 8 * size hd.dimension * n ≤ length b - start → P (answered ((n, start), start + 8 * size hd.dimension * n)))
+    → P (line_body b hd)
+line_cases b hd P none few all =
+    let n = number_at hd.order 4 b hd.next.0 in
+    let start = hd.next.0 + 4 in
+    bytes_there b hd.next.0 4
+    (λ lt. let e = num_past b hd.next.0 hd.order 4 lt in rw e (none e))
+    (λ le.
+    let e = num_good b hd.next.0 hd.order 4 le in
+    rw e
+    (bytes_there b start (8 * size hd.dimension * n) (λ lt. rw (span_past b start (8 * size hd.dimension * n) lt) (few e lt)) (λ le'. rw (span_good b start (8 * size hd.dimension * n) le') (all e le le'))))
+
+point_cases : (b : List ℕ) (hd : Head) (P : Answer ((ℕ × ℕ) × ℕ) → Type 0) → let bytes = 8 * size hd.dimension in
+    (length b - hd.next.0 < bytes → P (refused 2 hd.next.0))
+    → (bytes ≤ length b - hd.next.0 → P (answered ((cond (all_nan b hd.order (size hd.dimension) hd.next.0) 0 1, hd.next.0), hd.next.0 + bytes)))
+    → P (point_body b hd)
+point_cases b hd P few all =
+    bytes_there b hd.next.0 (8 * size hd.dimension)
+    (λ lt. rw (span_past b hd.next.0 (8 * size hd.dimension) lt) (few lt))
+    (λ le. rw (span_good b hd.next.0 (8 * size hd.dimension) le) (all le))
+
+-- each way that a line's body comes out, in the code's terms
+module _ (b : List ℕ) (hd : Head) (m n : ℕ) (size_is : m ≡ size hd.dimension) (e : answered (n, hd.next.0 + 4) ≡ num b hd.order 4 hd.next.0) where
+  pub line_few : length b - (hd.next.0 + 4) < 8 * m * n → refused 2 (hd.next.0 + 4) ≡ line_body b hd
+  line_few lt = rw (← e, ← size_is, span_past b (hd.next.0 + 4) (8 * m * n) lt)
+
+  pub line_all : 8 * m * n ≤ length b - (hd.next.0 + 4) → answered ((n, hd.next.0 + 4), hd.next.0 + 4 + 8 * m * n) ≡ line_body b hd
+  line_all le = rw (← e, ← size_is, span_good b (hd.next.0 + 4) (8 * m * n) le)
+
+pub point_few : (b : List ℕ) (hd : Head) (m : ℕ) → m ≡ size hd.dimension → length b - hd.next.0 < 8 * m → refused 2 hd.next.0 ≡ point_body b hd
+point_few b hd m e lt = rw (← e, span_past b hd.next.0 (8 * m) lt)
+
+pub point_all : (b : List ℕ) (hd : Head) (m n : ℕ) → m ≡ size hd.dimension → n ≡ cond (all_nan b hd.order m hd.next.0) 0 1 → 8 * m ≤ length b - hd.next.0
+    → answered ((n, hd.next.0), hd.next.0 + 8 * m) ≡ point_body b hd
+point_all b hd m n e i le = rw (← e, span_good b hd.next.0 (8 * m) le, i)
+
+-- the sizes of a body
+abbrev pub Sizes : List ℕ → Head → Answer ((ℕ × ℕ) × ℕ) → Type 0
+Sizes b hd (refused x y) = Unit
+Sizes b hd (answered ((n, start), end)) = (hd.next.0 ≤ start) × (hd.next.0 + 1 ≤ end) × (start ≤ end) × (end ≤ length b) × (n ≤ length b)
+
+pub line_sizes : (b : List ℕ) (hd : Head) → Sizes b hd (line_body b hd)
+line_sizes b hd =
+    line_cases b hd (Sizes b hd) (λ e. tt) (λ e lt. tt)
+    (λ e four le. let n = count_bound hd.dimension (number_at hd.order 4 b hd.next.0) _ le in (omega arith, omega arith, omega arith, omega arith, omega arith))
+
+pub point_sizes : (b : List ℕ) (hd : Head) → Sizes b hd (point_body b hd)
+point_sizes b hd =
+    point_cases b hd (Sizes b hd) (λ lt. tt)
+    (λ le. let two = two_at_least hd.dimension in let one = one_at_most (all_nan b hd.order (size hd.dimension) hd.next.0) in (omega arith, omega arith, omega arith, omega arith, omega arith))
+  where
+    two_at_least : (d : Dimension) → 2 ≤ size d
+    two_at_least Xy = omega arith
+    two_at_least Xyz = omega arith
+    two_at_least Xym = omega arith
+    two_at_least Xyzm = omega arith
+
+    one_at_most : (t : Bool) → cond t 0 1 ≤ 1
+    one_at_most true = omega arith
+    one_at_most false = omega arith
+
+-- the one row of a body with these sizes
+pub leaf_fits : (b : List ℕ) (head : Head) (row l at n start end : ℕ) → Sizes b head (answered ((n, start), end)) → row ≤ at → at ≤ head.next.0 → length b ≤ 1048575 → l ≤ 18
+    → (row ≤ row + 1) × (row + 1 ≤ end) × RowFits (row_from head (offset at) l (offset start) (offset end) n (row + 1 - row))
+leaf_fits b head row l at n start end z p q short lv = (
+  omega arith,
+  omega (arith, z.1),
+  row_fits head at l start end n (row + 1 - row) (omega arith) (omega (arith, z.1, z.3)) (omega (arith, z.2, z.3)) (omega (arith, z.3)) (omega (arith, z.4)) (omega arith),
+)
+
+module _ (b : List ℕ) (all : Bytes b) {S : Type 0} (list : Lists S) (s : S) (r l at : ℕ) (head : Head) (h : Header) (g : Heads h at head) where
   abbrev all_of_it : Head → Answer (State S)
   all_of_it hd = whole list r l at s (body_of b 19 h l hd.next.0)
 
-  module _ (k : holds_coordinates head.kind ≡ true) (k₁ : head.kind ≡ Point → ⊥) where
-    k' : holds_coordinates h.kind ≡ true
-    k' = ap (λ (x : Head). holds_coordinates x.kind) g.same ∙ k
+  -- a body's one row, listed
+  abbrev pub closing : Head → Answer ((ℕ × ℕ) × ℕ) → Answer (State S)
+  closing hd (refused x y) = refused x y
+  closing hd (answered ((n, start), end)) = answered (end, r + 1, list s r (row_from hd (offset at) l (offset start) (offset end) n (r + 1 - r)))
 
-    k₁' : h.kind ≡ Point → ⊥
-    k₁' e = k₁ (sym (ap (λ (x : Head). x.kind) g.same) ∙ e)
+  one : r + 1 - r ≡ 1
+  one = omega arith
 
-    pub line_refused : (x y : ℕ) → refused x y ≡ num b head.order 4 head.next.0 → refused x y ≡ all_of_it head
-    line_refused x y =
-        of_head (λ hd. refused x y ≡ num b hd.order 4 hd.next.0 → refused x y ≡ all_of_it hd) (line_away b all list s h r l at head.next.0 g.behind k' k₁' x y)
+  pub line_whole : holds_coordinates head.kind ≡ true → (head.kind ≡ Point → ⊥) → closing head (line_body b head) ≡ all_of_it head
+  line_whole k k₁ =
+      subst (λ hd. closing hd (line_body b hd) ≡ all_of_it hd) g.same
+      (line_cases b (head_of h head.next.0) (λ A. closing (head_of h head.next.0) A ≡ all_of_it head) (λ e. line_away b all list s h r l at head.next.0 g.behind k' k₁' 2 head.next.0 (sym e))
+      (λ e lt. line_past b all list s h r l at head.next.0 g.behind k' k₁' _ (sym e) lt)
+      (λ e four le. rw one (line_good b all list s h r l at head.next.0 g.behind k' k₁' _ (sym e) le)))
+    where
+      k' : holds_coordinates h.kind ≡ true
+      k' = ap (λ (x : Head). holds_coordinates x.kind) g.same ∙ k
 
-    module _ (m n : ℕ) where
-      pub line_2 : m ≡ size head.dimension → answered (n, head.next.0 + 4) ≡ num b head.order 4 head.next.0 → length b - (head.next.0 + 4) < 8 * m * n
-          → refused 2 (head.next.0 + 4) ≡ all_of_it head
-      line_2 =
-          of_head
-          (λ hd. m ≡ size hd.dimension → answered (n, hd.next.0 + 4) ≡ num b hd.order 4 hd.next.0 → length b - (hd.next.0 + 4) < 8 * m * n → refused 2 (hd.next.0 + 4) ≡ all_of_it hd)
-          (λ e i lt. line_past b all list s h r l at head.next.0 g.behind k' k₁' n i (rw e at lt))
+      k₁' : h.kind ≡ Point → ⊥
+      k₁' e = k₁ (sym (ap (λ (x : Head). x.kind) g.same) ∙ e)
 
-      pub line_row : m ≡ size head.dimension → answered (n, head.next.0 + 4) ≡ num b head.order 4 head.next.0 → 8 * m * n ≤ length b - (head.next.0 + 4)
-          → let end = head.next.0 + 4 + 8 * m * n in
-          answered (end, r + 1, list s r (row_from head (offset at) l (offset (head.next.0 + 4)) (offset end) n (r + 1 - r))) ≡ all_of_it head
-      line_row =
-          let one : r + 1 - r ≡ 1 = omega arith in
-          of_head
-          (λ hd. m ≡ size hd.dimension → answered (n, hd.next.0 + 4) ≡ num b hd.order 4 hd.next.0 → 8 * m * n ≤ length b - (hd.next.0 + 4)
-          → answered (hd.next.0 + 4 + 8 * m * n, r + 1, list s r (row_from hd (offset at) l (offset (hd.next.0 + 4)) (offset (hd.next.0 + 4 + 8 * m * n)) n (r + 1 - r))) ≡ all_of_it hd)
-          (λ e i le. rw (e, one) (line_good b all list s h r l at head.next.0 g.behind k' k₁' n i (rw e at le)))
-
-  module _ (k : head.kind ≡ Point) (m : ℕ) where
-    k₀ : h.kind ≡ Point
-    k₀ = ap (λ (x : Head). x.kind) g.same ∙ k
-
-    pub point_2 : m ≡ size head.dimension → length b - head.next.0 < 8 * m → refused 2 head.next.0 ≡ all_of_it head
-    point_2 =
-        of_head (λ hd. m ≡ size hd.dimension → length b - hd.next.0 < 8 * m → refused 2 hd.next.0 ≡ all_of_it hd)
-        (λ e lt. point_past b all list s h r l at head.next.0 g.behind k₀ (rw e at lt))
-
-    pub point_row : (n : ℕ) → m ≡ size head.dimension → 8 * m ≤ length b - head.next.0 → n ≡ cond (all_nan b head.order m head.next.0) 0 1
-        → answered (head.next.0 + 8 * m, r + 1, list s r (row_from head (offset at) l (offset head.next.0) (offset (head.next.0 + 8 * m)) n (r + 1 - r))) ≡ all_of_it head
-    point_row n =
-        let one : r + 1 - r ≡ 1 = omega arith in
-        of_head
-        (λ hd. m ≡ size hd.dimension → 8 * m ≤ length b - hd.next.0 → n ≡ cond (all_nan b hd.order m hd.next.0) 0 1
-        → answered (hd.next.0 + 8 * m, r + 1, list s r (row_from hd (offset at) l (offset hd.next.0) (offset (hd.next.0 + 8 * m)) n (r + 1 - r))) ≡ all_of_it hd)
-        (λ e le i. rw (e, one) (point_good b all list s h r l at head.next.0 g.behind k₀ (rw e at le) n (rw e at i)))
+  pub point_whole : head.kind ≡ Point → closing head (point_body b head) ≡ all_of_it head
+  point_whole k =
+      let k' : h.kind ≡ Point = ap (λ (x : Head). x.kind) g.same ∙ k in
+      subst (λ hd. closing hd (point_body b hd) ≡ all_of_it hd) g.same
+      (point_cases b (head_of h head.next.0) (λ A. closing (head_of h head.next.0) A ≡ all_of_it head) (λ lt. point_past b all list s h r l at head.next.0 g.behind k' lt)
+      (λ le. rw one (point_good b all list s h r l at head.next.0 g.behind k' le _ refl)))

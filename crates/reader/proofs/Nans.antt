@@ -10,7 +10,7 @@ use Rattle.meaning.specs.declared.Endianness.{Endianness}
 use Rattle.meaning.specs.Number.{number, number_at}
 use Rattle.meaning.specs.Grammar.{is_nan, every}
 use Rattle.meaning.specs.Reading.{pieces}
-use Rattle.reader.specs.Walk.{all_nan}
+use Rattle.reader.specs.Body.{all_nan}
 
 drop_take : (n m : ℕ) (xs : List ℕ) → n ≤ length xs → drop n (take (n + m) xs) ≡ take m (drop n xs)
 drop_take n m xs h = ap (drop n) (take-add n m xs) ∙ drop_at (take n xs) (take m (drop n xs)) n (length-take-le n xs h)

@@ -11,8 +11,8 @@ use Rattle.meaning.specs.Table.{offset}
 use Rattle.meaning.proofs.Headers.{headed}
 use Rattle.reader.specs.declared.place.Parent.{Parent}
 use Rattle.reader.specs.declared.place.Parent.TheVariants.{NoParent, Multi, Collection}
-use Rattle.reader.specs.declared.place.Place.{Place as CodePlace}
-use Rattle.reader.specs.declared.place.Place.TheVariants.{Rings, Geometries}
+use Rattle.reader.specs.declared.place.Siblings.{Siblings}
+use Rattle.reader.specs.declared.place.Siblings.TheVariants.{Rings, Geometries}
 use Rattle.reader.specs.declared.geometry.Head.{Head}
 
 -- what a place below this parent asks
@@ -21,8 +21,8 @@ asks_of NoParent = record { kind = none; dimension = none; srid = true }
 asks_of (Multi k d) = record { kind = some k; dimension = some d; srid = false }
 asks_of Collection = record { kind = none; dimension = none; srid = false }
 
--- the place that the code's place means
-abbrev pub place_of : CodePlace → Place
+-- the place where the code's siblings stand
+abbrev pub place_of : Siblings → Place
 place_of (Rings o d) = rings o d
 place_of (Geometries p) = geometries (asks_of p)
 

@@ -1,4 +1,5 @@
 pub mod Asks
+pub mod Body
 pub mod Orders
 pub mod Rows
 pub mod Walk

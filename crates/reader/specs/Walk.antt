@@ -1,14 +1,14 @@
 -- What the walk makes of geometries that were read: where it ends, and what lists their rows.
-use Rattle.std.specs.Prelude.{ℕ, zero, suc, ◌+◌, ◌-◌, ◌≤◌, Bool, true, ◌&&◌, List, Result, Ok, Err}
-use Rattle.meaning.specs.declared.Endianness.{Endianness}
+use Rattle.std.specs.Prelude.{ℕ, ◌+◌, ◌-◌, ◌≤◌, Result, Ok, Err}
 use Rattle.meaning.specs.declared.Offset.{Offset}
 use Rattle.meaning.specs.declared.Refusal.{Refusal}
+use Rattle.meaning.specs.declared.Row.{Row}
 use Rattle.meaning.specs.declared.RowFields.{RowFields}
-use Rattle.meaning.specs.Number.{number_at}
-use Rattle.meaning.specs.Grammar.{Forest, is_nan, Place, rings, geometries}
+use Rattle.meaning.specs.Grammar.{Forest, Place, rings, geometries}
 use Rattle.meaning.specs.Answer.{Answer, refused, answered, refusal}
 use Rattle.meaning.specs.Table.{rows_in, rows, RowFits}
 use Rattle.meaning.proofs.Levels.{Enough}
+use Rattle.reader.specs.declared.body.Body.{Body}
 use Rattle.reader.specs.declared.geometry.Head.{Head}
 use Rattle.reader.specs.declared.opened.Opened.{Opened}
 use Rattle.reader.specs.declared.spot.Spot.{Spot}
@@ -29,13 +29,13 @@ row_from h start l body end n s = record {
   body = body;
 }
 
--- the row of what was opened, by where it ends and the next row
-abbrev pub closed : Opened → Spot → RowFields
-closed o behind = row_from o.head o.spot.at o.level o.body behind.at o.count (behind.row.0 - o.spot.row.0)
+-- the row of what was opened, by its body and the next row
+abbrev pub closed : Opened → Body → Row → RowFields
+closed o b next = row_from o.head o.spot.at o.level b.start b.end b.count (next.0 - o.spot.row.0)
 
--- the next row is behind it, and each field fits its bits
-abbrev pub Closable : Opened → Spot → Type 0
-Closable o behind = (o.spot.row.0 ≤ behind.row.0) × RowFits (closed o behind)
+-- the next row is behind it, with bytes for each, and each field fits its bits
+abbrev pub Closable : Opened → Body → Row → Type 0
+Closable o b next = (o.spot.row.0 ≤ next.0) × (next.0 ≤ b.end.0) × RowFits (closed o b next)
 
 -- the offset behind, the next row, and what listed the rows
 abbrev pub State : Type 0 → Type 0
@@ -50,11 +50,6 @@ whole list r l at s (answered x) = answered (x.1, r + rows_in x.0, list_rows lis
 abbrev pub walked : {S : Type 0} → Result Spot Refusal → S → Answer (State S)
 walked (Ok e) s = answered (e.at.0, e.row.0, s)
 walked (Err x) s = refusal x
-
--- whether the n ordinates from an offset on are all NaN
-unfoldable pub all_nan : List ℕ → Endianness → ℕ → ℕ → Bool
-all_nan b o zero at = true
-all_nan b o (suc n) at = is_nan (number_at o 8 b at) && all_nan b o n (at + 8)
 
 -- nineteen levels are enough at this place and level, and the level is a small number
 abbrev pub Room : Place → ℕ → Type 0

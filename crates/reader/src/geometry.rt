@@ -5,11 +5,12 @@ ghost use Rattle.meaning.specs.Reading.{header, forest};
 ghost use Rattle.reader.specs.Asks.{asks_of, place_of, head_meant, viewed, opened};
 ghost use Rattle.reader.specs.Walk.{walked, whole, Room};
 
+use crate::body::Body;
 use crate::geometry_collection::collection;
 use crate::linearring::ring;
 use crate::linestring::line_string;
 use crate::opened::{Opened, close};
-use crate::place::{Parent, Place, child_fits, inside, srid_fits, too_deep};
+use crate::place::{Parent, Place, Siblings, child_fits, inside, srid_fits, too_deep};
 use crate::point::point;
 use crate::rows::Rows;
 use crate::spot::Spot;
@@ -82,12 +83,12 @@ fn opened(
 
 // What opens a geometry or ring at a place.
 #[tactic(auto, unfolding(meaning::specs::Reading::header))]
-fn open(buf: &[u8], at: Offset, level: usize, place: Place) -> Result<Head, Refusal>
-    ensures { head_meant result ≡ viewed (header buf.now (place_of place) level at.0) }
+fn open(buf: &[u8], at: Offset, place: Place) -> Result<Head, Refusal>
+    ensures { head_meant result ≡ viewed (header buf.now (place_of place.siblings) place.level at.0) }
 {
-    match place {
-        Place::Rings(order, dimension) => Ok(ring(at, order, dimension)),
-        Place::Geometries(parent) => header(buf, at, level, parent),
+    match place.siblings {
+        Siblings::Rings(order, dimension) => Ok(ring(at, order, dimension)),
+        Siblings::Geometries(parent) => header(buf, at, place.level, parent),
     }
 }
 
@@ -96,32 +97,44 @@ pub fn geometry<R: Rows>(
     buf: &[u8],
     rows: &mut R,
     spot: Spot,
-    level: usize,
     place: Place,
 ) -> Result<Spot, Refusal>
-    requires { (length buf.now ≤ 1048575) × Room (place_of place) level }
-    ensures { walked result rows.new ≡ whole R.listed spot.row.0 level spot.at.0 rows.old (forest buf.now 19 1 (place_of place) level spot.at.0) }
+    requires { (length buf.now ≤ 1048575) × Room (place_of place.siblings) place.level }
+    ensures { walked result rows.new ≡ whole R.listed spot.row.0 place.level spot.at.0 rows.old (forest buf.now 19 1 (place_of place.siblings) place.level spot.at.0) }
 {
-    let head = open(buf, spot.at, level, place)?;
+    let head = open(buf, spot.at, place)?;
+    let opened = Opened {
+        head,
+        spot,
+        level: place.level,
+    };
     match head.kind {
-        Kind::Point => point(buf, rows, spot, level, head),
-        Kind::Ring | Kind::LineString => line_string(buf, rows, spot, level, head),
+        Kind::Point => {
+            let body = point(buf, head)?;
+            Ok(close(rows, opened, body, Row(spot.row.0 + 1)))
+        }
+        Kind::Ring | Kind::LineString => {
+            let body = line_string(buf, head)?;
+            Ok(close(rows, opened, body, Row(spot.row.0 + 1)))
+        }
         _ => {
             let count = read_u32(buf, head.next, head.order)? as usize;
-            let body = Offset(head.next.0 + 4);
+            let start = Offset(head.next.0 + 4);
+            let below = Place {
+                siblings: inside(head),
+                level: place.level + 1,
+            };
             let first = Spot {
-                at: body,
+                at: start,
                 row: Row(spot.row.0 + 1),
             };
-            let behind = collection(buf, rows, first, level + 1, inside(head), count)?;
-            let opened = Opened {
-                head,
-                spot,
-                level,
+            let behind = collection(buf, rows, first, below, count)?;
+            let body = Body {
                 count,
-                body,
+                start,
+                end: behind.at,
             };
-            Ok(close(rows, opened, behind))
+            Ok(close(rows, opened, body, behind.row))
         }
     }
 }

@@ -16,16 +16,15 @@ pub fn collection<R: Rows>(
     buf: &[u8],
     rows: &mut R,
     first: Spot,
-    level: usize,
     place: Place,
     count: usize,
 ) -> Result<Spot, Refusal>
-    requires { (length buf.now ≤ 1048575) × Room (place_of place) level }
-    ensures { walked result rows.new ≡ whole R.listed first.row.0 level first.at.0 rows.old (forest buf.now 19 count (place_of place) level first.at.0) }
+    requires { (length buf.now ≤ 1048575) × Room (place_of place.siblings) place.level }
+    ensures { walked result rows.new ≡ whole R.listed first.row.0 place.level first.at.0 rows.old (forest buf.now 19 count (place_of place.siblings) place.level first.at.0) }
 {
     let mut spot = first;
     for _ in 0..count {
-        spot = geometry(buf, rows, spot, level, place)?;
+        spot = geometry(buf, rows, spot, place)?;
     }
     Ok(spot)
 }

@@ -1,6 +1,7 @@
 // Bytes to table.
 #![tactic(auto)]
 
+pub mod body;
 pub mod geometry;
 pub mod geometry_collection;
 pub mod linearring;
@@ -20,7 +21,7 @@ ghost use Rattle.reader.specs.Walk.{walked, whole};
 
 use geometry::geometry;
 use meaning::{Offset, Prefix, Refusal, Row};
-use place::{Parent, Place};
+use place::Place;
 use rows::{Count, Fill, Rows};
 use spot::Spot;
 
@@ -38,7 +39,7 @@ pub fn walk_outermost<R: Rows>(buf: &[u8], rows: &mut R) -> Result<Spot, Refusal
         at: Offset(0),
         row: Row(0),
     };
-    geometry(buf, rows, start, 0, Place::Geometries(Parent::NoParent))
+    geometry(buf, rows, start, Place::OUTERMOST)
 }
 
 // Reads the geometry that begins the buffer, and lists it in the table. A refusal leaves the table as it was, so the walk goes twice: once

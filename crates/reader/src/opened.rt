@@ -1,26 +1,24 @@
-// A geometry or ring that opened, and closes when its end is known.
+// A geometry or ring that opened, and closes when its body was read.
 ghost use Rattle.std.specs.Prelude.{◌≡◌};
 ghost use Rattle.reader.specs.Walk.{closed, Closable};
 
+use crate::body::Body;
 use crate::geometry::Head;
 use crate::rows::Rows;
 use crate::spot::Spot;
-use meaning::{Offset, RowFields};
+use meaning::{Row, RowFields};
 
-// What is known of a geometry or ring before its end is.
 #[derive(Clone, Copy, Debug, PartialEq, Eq)]
 pub struct Opened {
     pub head: Head,
     pub spot: Spot,
     pub level: usize,
-    pub count: usize,
-    pub body: Offset,
 }
 
-// Lists its row, where it ends and the next row being known.
-pub fn close<R: Rows>(rows: &mut R, opened: Opened, behind: Spot) -> Spot
-    requires { Closable opened behind }
-    ensures { (result ≡ behind) × (rows.new ≡ R.listed rows.old opened.spot.row.0 (closed opened behind)) }
+// Lists its row. `next` is the row behind it and all below it.
+pub fn close<R: Rows>(rows: &mut R, opened: Opened, body: Body, next: Row) -> Spot
+    requires { Closable opened body next }
+    ensures { (result.at ≡ body.end) × (result.row ≡ next) × (rows.new ≡ R.listed rows.old opened.spot.row.0 (closed opened body next)) }
 {
     let fields = RowFields {
         kind: opened.head.kind,
@@ -29,11 +27,14 @@ pub fn close<R: Rows>(rows: &mut R, opened: Opened, behind: Spot) -> Spot
         srid: opened.head.srid,
         level: opened.level,
         start: opened.spot.at,
-        end: behind.at,
-        count: opened.count,
-        subtree: behind.row.0 - opened.spot.row.0,
-        body: opened.body,
+        end: body.end,
+        count: body.count,
+        subtree: next.0 - opened.spot.row.0,
+        body: body.start,
     };
     rows.list(opened.spot.row, fields);
-    behind
+    Spot {
+        at: body.end,
+        row: next,
+    }
 }

@@ -15,23 +15,40 @@ pub enum Parent {
 }
 
 #[derive(Clone, Copy, Debug, PartialEq, Eq)]
-pub enum Place {
+pub enum Siblings {
     // rings have their polygon's order and dimension
     Rings(Endianness, Dimension),
     Geometries(Parent),
 }
 
-// Where the children of a geometry of kind 3 to 7 stand.
+// What siblings stand at a place, and its level.
+#[derive(Clone, Copy, Debug, PartialEq, Eq)]
+pub struct Place {
+    pub siblings: Siblings,
+    pub level: usize,
+}
+
+impl Place {
+    pub const OUTERMOST: Place = Place {
+        siblings: Siblings::Geometries(Parent::NoParent),
+        level: 0,
+    };
+}
+
+// The children of a geometry of kind 3 to 7.
 #[tactic(auto, unfolding(meaning::specs::Grammar::inside))]
-pub fn inside(head: Head) -> Place
+pub fn inside(head: Head) -> Siblings
     ensures { (h : Header) → head_of h head.next.0 ≡ head → inside h ≡ place_of result }
 {
     match head.kind {
-        Kind::Polygon => Place::Rings(head.order, head.dimension),
-        Kind::MultiPoint => Place::Geometries(Parent::Multi(Kind::Point, head.dimension)),
-        Kind::MultiLineString => Place::Geometries(Parent::Multi(Kind::LineString, head.dimension)),
-        Kind::MultiPolygon => Place::Geometries(Parent::Multi(Kind::Polygon, head.dimension)),
-        _ => Place::Geometries(Parent::Collection),
+        Kind::Polygon => Siblings::Rings(head.order, head.dimension),
+        Kind::MultiPoint => Siblings::Geometries(Parent::Multi(Kind::Point, head.dimension)),
+        Kind::MultiLineString => Siblings::Geometries(Parent::Multi(
+            Kind::LineString,
+            head.dimension,
+        )),
+        Kind::MultiPolygon => Siblings::Geometries(Parent::Multi(Kind::Polygon, head.dimension)),
+        _ => Siblings::Geometries(Parent::Collection),
     }
 }
 

@@ -33,10 +33,12 @@ pub fn bytes_of(s: &[u8], out: &mut [u8]) -> Option<usize>
 {
     let mut parts = s.splitn(2, |&b| b == b'+');
     let n = pairs_of(parts.next()?, out)?;
-    match parts.next() {
-        Some(zeros) => zeros_of(zeros, out, n),
-        None => Some(n),
-    }
+    let Some(zeros) = parts.next() else {
+        return Some(n);
+    };
+    let end = n.checked_add(number_of(zeros)?)?;
+    out.get_mut(n..end)?.fill(0);
+    Some(end)
 }
 
 fn pairs_of(s: &[u8], out: &mut [u8]) -> Option<usize>
@@ -51,13 +53,4 @@ fn pairs_of(s: &[u8], out: &mut [u8]) -> Option<usize>
     let n = s.len() / 2;
     hex::decode_to_slice(s, out.get_mut(..n)?).ok()?;
     Some(n)
-}
-
-// As many zeros as the number says, from `at` on.
-fn zeros_of(s: &[u8], out: &mut [u8], at: usize) -> Option<usize>
-    ensures { IfSome result (λ n. n ≤ length out.old) }
-{
-    let end = at.checked_add(number_of(s)?)?;
-    out.get_mut(at..end)?.fill(0);
-    Some(end)
 }

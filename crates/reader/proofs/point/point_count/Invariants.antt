@@ -1,6 +1,6 @@
 -- Whether what is left is all NaN is whether all of it is. Assumes nothing.
 use Rattle.std.proofs.Common.{◌≡◌, ◌+◌, ◌*◌, ◌-◌}
-use Rattle.reader.specs.Walk.{all_nan}
+use Rattle.reader.specs.Body.{all_nan}
 use Rattle.reader.proofs.point.point_count.Given as goal
 
 abbrev pub invariant-loop-i : goal.invariant-loop-i
