@@ -8,6 +8,7 @@ abbrev pub place_of : Endianness → ℕ → ℕ → ℕ
 place_of BigEndian w n = n
 place_of LittleEndian w n = w - 1 - n
 
+-- big, or else little
 abbrev pub order_if : Bool → Endianness
 order_if true = BigEndian
 order_if false = LittleEndian

@@ -55,7 +55,7 @@ fn flagged_type(code: u32) -> Option<WkbType>
 fn kind_in_code(t: u32) -> Option<Kind>
     ensures { result ≡ cond (leb 1 t && leb t 7) (Some (kind_of t)) None }
 {
-    if t < 1 || 7 < t {
+    if !(1..=7).contains(&t) {
         return None;
     }
     Some(kind_of(t as usize))
@@ -80,6 +80,8 @@ pub fn iso_code(kind: Kind, d: Dimension) -> u32
     (1000 * usize::from(d) + usize::from(kind)) as u32
 }
 
+// This and the two below answer every number, as their definitions do, so they are no `TryFrom`, and no `From` either: that says that nothing
+// is lost.
 pub fn kind_of(k: usize) -> Kind
     ensures { result ≡ kind_of k }
 {

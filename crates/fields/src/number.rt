@@ -1,5 +1,6 @@
 // Numbers of W bytes in either byte order. One loop reads and one writes, at any width. Each width and order is a function of its own, whose
-// W loads or stores become one before the two orders meet in a caller.
+// W loads or stores become one before the two orders meet in a caller. `from_be_bytes` and its like would be one function for each width; an
+// array taken by `first_chunk` in place of a slice and an offset costs a test of the length at each read.
 ghost use Rattle.std.specs.Prelude.{◌≡◌, ◌++◌, ◌+◌, ◌^◌, ◌≤◌, ◌<◌, length, take, drop};
 ghost use Rattle.meaning.specs.Number.{number_at, bytes_of};
 ghost use Rattle.fields.specs.Place.{order_if, place_of};

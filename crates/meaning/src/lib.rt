@@ -208,7 +208,7 @@ pub struct Prefix {
 }
 
 // A coordinate's floats together; what the dimension does not carry is positive zero.
-#[derive(Clone, Copy)]
+#[derive(Clone, Copy, Debug, PartialEq)]
 pub struct Coordinate {
     pub dimension: Dimension,
     pub x: f64,

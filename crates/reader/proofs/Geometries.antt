@@ -109,10 +109,11 @@ room_inside (geometries a) l h room at k = subst (Room (inside h)) (sym (add-one
         let le = shallow a.kind l h.kind room.0 (both (asked a.kind h.kind) (asked_dimension a.dimension h.dimension) at.fitting).0 (omega arith) in
         (enough_more (geometries y) (suc l) 18 f, omega arith)
 
--- what holds coordinates, and no Point, and what holds children
-pub lines : (k : Kind) → (k ≡ Ring) ⊎ (k ≡ LineString) → (holds_coordinates k ≡ true) × (k ≡ Point → ⊥)
-lines k (inl e) = (ap holds_coordinates e, λ i. let z = ap kind_number (sym e ∙ i) in omega arith)
-lines k (inr e) = (ap holds_coordinates e, λ i. let z = ap kind_number (sym e ∙ i) in omega arith)
+-- what holds coordinates, and what holds children
+pub leaves : (k : Kind) → (k ≡ Ring) ⊎ (k ≡ Point) ⊎ (k ≡ LineString) → holds_coordinates k ≡ true
+leaves k (inl e) = ap holds_coordinates e
+leaves k (inr (inl e)) = ap holds_coordinates e
+leaves k (inr (inr e)) = ap holds_coordinates e
 
 pub parents : (k : Kind) → (k ≡ Ring → ⊥) → (k ≡ Point → ⊥) → (k ≡ LineString → ⊥) → holds_coordinates k ≡ false
 parents Ring a b c = absurd (a refl)

@@ -20,7 +20,7 @@ use Rattle.meaning.specs.Grammar.{Header, Ordinates, Forest, empty, first, every
 use Rattle.meaning.specs.Answer.{Answer, refused, answered}
 use Rattle.meaning.specs.Reading.{pieces, coordinates_in, num, forest}
 use Rattle.meaning.specs.Table.{offset, row_of, rows, rows_in, RowFits}
-use Rattle.meaning.proofs.Codes.{ne_same_kind}
+use Rattle.meaning.proofs.Codes.{ne_same_kind, same_kind-true, same_kind-false}
 use Rattle.meaning.proofs.Lists.{each_take, each_drop}
 use Rattle.meaning.proofs.Headers.{headed}
 use Rattle.meaning.proofs.Coordinates.{count_read, sized_read, length_ordinate_bytes}
@@ -31,7 +31,7 @@ use Rattle.meaning.proofs.Steps.{span_good, span_past, num_good, num_past, run_g
 use Rattle.fields.proofs.Rows.{fit_a, fit_b}
 use Rattle.reader.specs.declared.geometry.Head.{Head}
 use Rattle.reader.specs.Asks.{head_of, Heads}
-use Rattle.reader.specs.Body.{all_nan, line_body, point_body}
+use Rattle.reader.specs.Body.{all_nan, line_body, point_body, coordinates_body}
 use Rattle.reader.specs.Rows.{Lists, list_rows}
 use Rattle.reader.specs.Walk.{State, row_from, whole}
 use Rattle.reader.proofs.Nans.{nans_are}
@@ -224,6 +224,13 @@ point_sizes b hd =
     one_at_most true = omega arith
     one_at_most false = omega arith
 
+pub leaf_sizes : (b : List ℕ) (hd : Head) → Sizes b hd (coordinates_body b hd)
+leaf_sizes b hd = go (same_kind hd.kind Point)
+  where
+    go : (c : Bool) → Sizes b hd (cond c (point_body b hd) (line_body b hd))
+    go true = point_sizes b hd
+    go false = line_sizes b hd
+
 -- the one row of a body with these sizes
 pub leaf_fits : (b : List ℕ) (head : Head) (row l at n start end : ℕ) → Sizes b head (answered ((n, start), end)) → row ≤ at → at ≤ head.next.0 → length b ≤ 1048575 → l ≤ 18
     → (row ≤ row + 1) × (row + 1 ≤ end) × RowFits (row_from head (offset at) l (offset start) (offset end) n (row + 1 - row))
@@ -264,3 +271,10 @@ module _ (b : List ℕ) (all : Bytes b) {S : Type 0} (list : Lists S) (s : S) (r
       subst (λ hd. closing hd (point_body b hd) ≡ all_of_it hd) g.same
       (point_cases b (head_of h head.next.0) (λ A. closing (head_of h head.next.0) A ≡ all_of_it head) (λ lt. point_past b all list s h r l at head.next.0 g.behind k' lt)
       (λ le. rw one (point_good b all list s h r l at head.next.0 g.behind k' le _ refl)))
+
+  pub leaf_whole : holds_coordinates head.kind ≡ true → closing head (coordinates_body b head) ≡ all_of_it head
+  leaf_whole k = go (same_kind head.kind Point) refl
+    where
+      go : (c : Bool) → same_kind head.kind Point ≡ c → closing head (cond c (point_body b head) (line_body b head)) ≡ all_of_it head
+      go true e = point_whole (same_kind-true head.kind Point e)
+      go false e = line_whole k (same_kind-false head.kind Point e)

@@ -22,9 +22,9 @@ asks_of (Multi k d) = record { kind = some k; dimension = some d; srid = false }
 asks_of Collection = record { kind = none; dimension = none; srid = false }
 
 -- the place where the code's siblings stand
-abbrev pub place_of : Siblings → Place
-place_of (Rings o d) = rings o d
-place_of (Geometries p) = geometries (asks_of p)
+abbrev pub place_meant : Siblings → Place
+place_meant (Rings o d) = rings o d
+place_meant (Geometries p) = geometries (asks_of p)
 
 -- what of a header the walk needs: not the code, and of the SRID only that it is there
 abbrev pub head_of : Header → ℕ → Head

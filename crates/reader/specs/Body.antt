@@ -3,7 +3,8 @@ use Rattle.std.specs.Prelude.{ℕ, zero, suc, ◌+◌, ◌*◌, Bool, true, ◌&
 use Rattle.meaning.specs.declared.Endianness.{Endianness}
 use Rattle.meaning.specs.declared.Refusal.{Refusal}
 use Rattle.meaning.specs.Number.{number_at}
-use Rattle.meaning.specs.Code.{size}
+use Rattle.meaning.specs.declared.Kind.TheVariants.{Point}
+use Rattle.meaning.specs.Code.{same_kind, size}
 use Rattle.meaning.specs.Grammar.{is_nan}
 use Rattle.meaning.specs.Answer.{Answer, meant}
 use Rattle.meaning.specs.Reading.{Reader, num, span, here, give, ◌>>=◌, ◌>>◌}
@@ -35,6 +36,9 @@ point_body b h = read h.next.0
       start ← here
       span b (8 * size h.dimension)
       give (cond (all_nan b h.order (size h.dimension) start) 0 1, start)
+
+abbrev pub coordinates_body : List ℕ → Head → Answer ((ℕ × ℕ) × ℕ)
+coordinates_body b h = cond (same_kind h.kind Point) (point_body b h) (line_body b h)
 
 -- count and start, and the offset behind
 abbrev pub body_meant : Result Body Refusal → Answer ((ℕ × ℕ) × ℕ)

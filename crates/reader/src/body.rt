@@ -1,5 +1,11 @@
 // What stands behind a header.
-use meaning::Offset;
+ghost use Rattle.std.specs.Prelude.{◌≡◌};
+ghost use Rattle.reader.specs.Body.{body_meant, coordinates_body};
+
+use crate::geometry::Head;
+use crate::linestring::line_string;
+use crate::point::point;
+use meaning::{Kind, Offset, Refusal};
 
 // A body that was read: how many coordinates or children it counts, where they begin, and where they end.
 #[derive(Clone, Copy, Debug, PartialEq, Eq)]
@@ -7,4 +13,14 @@ pub struct Body {
     pub count: usize,
     pub start: Offset,
     pub end: Offset,
+}
+
+// The body of a Point, a LineString or a ring.
+pub fn coordinates(buf: &[u8], head: Head) -> Result<Body, Refusal>
+    ensures { body_meant result ≡ coordinates_body buf.now head }
+{
+    match head.kind {
+        Kind::Point => point(buf, head),
+        _ => line_string(buf, head),
+    }
 }

@@ -2,16 +2,14 @@
 ghost use Rattle.std.specs.Prelude.{◌≡◌, ℕ, ◌+◌, ◌≤◌, length};
 ghost use Rattle.meaning.specs.Grammar.{geometries};
 ghost use Rattle.meaning.specs.Reading.{header, forest};
-ghost use Rattle.reader.specs.Asks.{asks_of, place_of, head_meant, viewed, opened};
+ghost use Rattle.reader.specs.Asks.{asks_of, place_meant, head_meant, viewed, opened};
 ghost use Rattle.reader.specs.Walk.{walked, whole, Room};
 
-use crate::body::Body;
+use crate::body::{Body, coordinates};
 use crate::geometry_collection::collection;
 use crate::linearring::ring;
-use crate::linestring::line_string;
 use crate::opened::{Opened, close};
 use crate::place::{Parent, Place, Siblings, child_fits, inside, srid_fits, too_deep};
-use crate::point::point;
 use crate::rows::Rows;
 use crate::spot::Spot;
 use crate::util::{read_u32, there};
@@ -39,10 +37,10 @@ pub fn header(buf: &[u8], at: Offset, level: usize, parent: Parent) -> Result<He
     }
     let order = order_of(usize::from(byte));
     let code = Offset(at.0 + 1);
-    match type_of(read_u32(buf, code, order)?) {
-        None => Err(Refusal::TypeCode(code)),
-        Some(t) => opened(buf, at, level, parent, order, t),
-    }
+    let Some(t) = type_of(read_u32(buf, code, order)?) else {
+        return Err(Refusal::TypeCode(code));
+    };
+    opened(buf, at, level, parent, order, t)
 }
 
 // What is tested once the code is known.
@@ -84,7 +82,7 @@ fn opened(
 // What opens a geometry or ring at a place.
 #[tactic(auto, unfolding(meaning::specs::Reading::header))]
 fn open(buf: &[u8], at: Offset, place: Place) -> Result<Head, Refusal>
-    ensures { head_meant result ≡ viewed (header buf.now (place_of place.siblings) place.level at.0) }
+    ensures { head_meant result ≡ viewed (header buf.now (place_meant place.siblings) place.level at.0) }
 {
     match place.siblings {
         Siblings::Rings(order, dimension) => Ok(ring(at, order, dimension)),
@@ -99,8 +97,8 @@ pub fn geometry<R: Rows>(
     spot: Spot,
     place: Place,
 ) -> Result<Spot, Refusal>
-    requires { (length buf.now ≤ 1048575) × Room (place_of place.siblings) place.level }
-    ensures { walked result rows.new ≡ whole R.listed spot.row.0 place.level spot.at.0 rows.old (forest buf.now 19 1 (place_of place.siblings) place.level spot.at.0) }
+    requires { (length buf.now ≤ 1048575) × Room (place_meant place.siblings) place.level }
+    ensures { walked result rows.new ≡ whole R.listed spot.row.0 place.level spot.at.0 rows.old (forest buf.now 19 1 (place_meant place.siblings) place.level spot.at.0) }
 {
     let head = open(buf, spot.at, place)?;
     let opened = Opened {
@@ -109,12 +107,8 @@ pub fn geometry<R: Rows>(
         level: place.level,
     };
     match head.kind {
-        Kind::Point => {
-            let body = point(buf, head)?;
-            Ok(close(rows, opened, body, Row(spot.row.0 + 1)))
-        }
-        Kind::Ring | Kind::LineString => {
-            let body = line_string(buf, head)?;
+        Kind::Ring | Kind::Point | Kind::LineString => {
+            let body = coordinates(buf, head)?;
             Ok(close(rows, opened, body, Row(spot.row.0 + 1)))
         }
         _ => {

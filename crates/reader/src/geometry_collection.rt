@@ -2,7 +2,7 @@
 // bytes left fall.
 ghost use Rattle.std.specs.Prelude.{◌≡◌, ◌≤◌, length};
 ghost use Rattle.meaning.specs.Reading.{forest};
-ghost use Rattle.reader.specs.Asks.{place_of};
+ghost use Rattle.reader.specs.Asks.{place_meant};
 ghost use Rattle.reader.specs.Walk.{walked, whole, Room};
 
 use crate::geometry::geometry;
@@ -19,8 +19,8 @@ pub fn collection<R: Rows>(
     place: Place,
     count: usize,
 ) -> Result<Spot, Refusal>
-    requires { (length buf.now ≤ 1048575) × Room (place_of place.siblings) place.level }
-    ensures { walked result rows.new ≡ whole R.listed first.row.0 place.level first.at.0 rows.old (forest buf.now 19 count (place_of place.siblings) place.level first.at.0) }
+    requires { (length buf.now ≤ 1048575) × Room (place_meant place.siblings) place.level }
+    ensures { walked result rows.new ≡ whole R.listed first.row.0 place.level first.at.0 rows.old (forest buf.now 19 count (place_meant place.siblings) place.level first.at.0) }
 {
     let mut spot = first;
     for _ in 0..count {

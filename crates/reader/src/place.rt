@@ -1,7 +1,7 @@
 // Where siblings stand, and what that asks of each: made from their parent in one place, and tested in one place.
 ghost use Rattle.std.specs.Prelude.{◌≡◌};
 ghost use Rattle.meaning.specs.Grammar.{Header, inside, fits, srid_fits, too_deep};
-ghost use Rattle.reader.specs.Asks.{asks_of, head_of, place_of};
+ghost use Rattle.reader.specs.Asks.{asks_of, head_of, place_meant};
 
 use crate::geometry::Head;
 use meaning::{Dimension, Endianness, Kind, WkbType};
@@ -38,7 +38,7 @@ impl Place {
 // The children of a geometry of kind 3 to 7.
 #[tactic(auto, unfolding(meaning::specs::Grammar::inside))]
 pub fn inside(head: Head) -> Siblings
-    ensures { (h : Header) → head_of h head.next.0 ≡ head → inside h ≡ place_of result }
+    ensures { (h : Header) → head_of h head.next.0 ≡ head → inside h ≡ place_meant result }
 {
     match head.kind {
         Kind::Polygon => Siblings::Rings(head.order, head.dimension),

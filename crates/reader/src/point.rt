@@ -10,7 +10,7 @@ use fields::code::size;
 use fields::number::read;
 use meaning::{Endianness, Offset, Refusal};
 
-// An exponent of all ones and a fraction that is not all zero, of either sign.
+// An exponent of all ones and a fraction that is not all zero, of either sign. The library's way to a float makes this very test.
 fn is_nan(bits: u64) -> bool
     ensures { result ≡ is_nan bits }
 {

@@ -26,7 +26,7 @@ where
     for (i, line) in lines.enumerate() {
         let line = line.strip_suffix(b"\n").unwrap_or(line);
         let mut answer = W::default();
-        if describe(line, i + 1, &mut answer).is_err() || !write_text(answer.as_str()) {
+        if describe(line, i + 1, &mut answer).is_err() || write_text(answer.as_str()).is_err() {
             return;
         }
     }
@@ -36,10 +36,12 @@ fn say_too_long(n: usize) {
     let mut text = ArrayString::<60>::new();
     let most = n.saturating_sub(1);
     if writeln!(text, "input too long: expected at most {most} bytes").is_ok() {
-        write_text(text.as_str());
+        let _ = write_text(text.as_str());
     }
 }
 
-fn write_text(text: &str) -> bool {
+fn write_text(text: &str) -> fmt::Result {
     io::write_all(STDOUT, text.as_bytes())
+        .then_some(())
+        .ok_or(fmt::Error)
 }

@@ -26,8 +26,8 @@ pub fn number_of(s: &[u8]) -> Option<usize>
     text.parse().ok()
 }
 
-// Hex digits in pairs, `-` for none; after them, if there is a `+`, how many zeros follow. The bytes are put at the start of `out`, and
-// the result is how many there are.
+// Hex digits in pairs, `-` for none; after them, if there is a `+`, how many zeros follow. The bytes are put at the start of `out`, which
+// the caller lends, since there is no heap, and keeps; the result is how many there are.
 pub fn bytes_of(s: &[u8], out: &mut [u8]) -> Option<usize>
     ensures { IfSome result (λ n. n ≤ length out.old) }
 {

@@ -22,7 +22,7 @@ fn main() {
     run(&mut input, &mut bytes, &mut table);
 }
 
-// The arrays are lent here and not in `main`, where their many zeros would be in the way of the proof.
+// The arrays become slices here and not in `main`, where their many zeros would be in the way of the proof.
 fn run(input: &mut [u8; INPUT], bytes: &mut [u8; MOST_BYTES], table: &mut [u64; MOST_WORDS]) {
     answer_lines(
         input,

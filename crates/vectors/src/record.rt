@@ -10,7 +10,7 @@ pub const MOST_WORDS: usize = 600;
 
 pub const MOST_BYTES: usize = 1_048_576;
 
-// A table of so many words, and a buffer of so many bytes.
+// A table of so many words, and a buffer of so many bytes. The bytes stay with the caller that lent them: no struct holds bytes.
 #[derive(Clone, Copy, Debug, PartialEq, Eq)]
 pub struct Record {
     pub words: usize,

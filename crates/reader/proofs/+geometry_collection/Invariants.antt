@@ -2,7 +2,7 @@
 -- all comes to from the start. Assumes nothing.
 use Rattle.std.proofs.Common.{◌≡◌, ◌+◌, ◌*◌, ◌-◌, ◌≤◌, length}
 use Rattle.meaning.specs.Reading.{forest}
-use Rattle.reader.specs.Asks.{place_of}
+use Rattle.reader.specs.Asks.{place_meant}
 use Rattle.reader.specs.Walk.{whole}
 use Rattle.reader.proofs.+geometry_collection.Given as goal
 
@@ -20,6 +20,6 @@ invariant-geometry_collection::collection-loop g l =
     record {
       onward : l.initial.spot.at.0 ≤ l.spot.at.0;
       rest :
-          whole list l.spot.row.0 l.place.level l.spot.at.0 l.rows (forest l.buf 19 (l.count - l.counter) (place_of l.place.siblings) l.place.level l.spot.at.0)
-          ≡ whole list l.initial.spot.row.0 l.place.level l.initial.spot.at.0 l.initial.rows (forest l.buf 19 l.count (place_of l.place.siblings) l.place.level l.initial.spot.at.0);
+          whole list l.spot.row.0 l.place.level l.spot.at.0 l.rows (forest l.buf 19 (l.count - l.counter) (place_meant l.place.siblings) l.place.level l.spot.at.0)
+          ≡ whole list l.initial.spot.row.0 l.place.level l.initial.spot.at.0 l.initial.rows (forest l.buf 19 l.count (place_meant l.place.siblings) l.place.level l.initial.spot.at.0);
     }

@@ -36,16 +36,16 @@ opened-requires c =
     let w = num_within a.buf.now (record { 0 = a.at.0 + 1 }) c.order_of-order.result c.in_ok-read_u32.ensures in
     omega arith
 
-pub returns-in-None : goal.returns-in-None
-returns-in-None c =
+pub returns-in_default : goal.returns-in_default
+returns-in_default c =
     let a = c.args in
     let le = there_good a.buf.now a.at 1 c.in_ok-there.ensures in
     bad_code a.buf.now (asks_of a.parent) a.level a.at.0 (omega arith) (omega (arith, c.if-byte-gt1.false)) c.order_of-order.result
     (c.order_of-order.ensures ∙ ap order_of c.from.ensures) _ c.in_ok-read_u32.ensures
-    (sym (ap type_meant (sym c.in-None.is) ∙ c.type_of.ensures))
+    (sym (ap type_meant (sym c.in_default.is) ∙ c.type_of.ensures))
 
-pub returns-in-Some : goal.returns-in-Some
-returns-in-Some c =
+pub returns : goal.returns
+returns c =
     let a = c.args in
     let le = there_good a.buf.now a.at 1 c.in_ok-there.ensures in
     c.opened.ensures c.in_ok-read_u32.field-0
