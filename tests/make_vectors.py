@@ -15,9 +15,8 @@ from answers import answer
 
 ROOT = os.path.dirname(os.path.dirname(os.path.abspath(__file__)))
 FILES = [
-    (list_reads, "crates/vectors/stdin", "crates/vectors/stdout"),
-    (list_questions, "tests/questions.txt", "tests/questions.expected"),
-    (list_writes, "tests/iso.txt", "tests/iso.expected"),
+    (list_reads.GROUPS + list_questions.GROUPS, "crates/vectors/stdin", "crates/vectors/stdout"),
+    (list_writes.GROUPS, "tests/iso.txt", "tests/iso.expected"),
 ]
 
 
@@ -42,9 +41,9 @@ def main():
     options = parser.parse_args()
     put = same if options.check else write
     good, pairs = True, []
-    for module, list_path, answers_path in FILES:
+    for groups, list_path, answers_path in FILES:
         # each line once, where it came first
-        lines = list(dict.fromkeys(line for group in module.GROUPS for line in group()))
+        lines = list(dict.fromkeys(line for group in groups for line in group()))
         answers = [answer(line) for line in lines]
         good = put(list_path, lines) and put(answers_path, answers) and good
         pairs += zip(lines, answers)

@@ -16,14 +16,14 @@ fn place<const BIG: bool>(width: usize, n: usize) -> usize
 }
 
 // The lowest digit first, each times the value p of its place: in such a sum the loads are joined.
-fn number<const W: usize, const BIG: bool>(s: &[u8], at: usize) -> u64
-    requires { (at + W ≤ length s.now) × (W ≤ 8) }
-    ensures { (result ≡ number_at (order_if BIG) W s.now at) × (result < 256 ^ W) }
+fn number<const W: usize, const BIG: bool>(s: &[u8], at: Offset) -> u64
+    requires { (at.0 + W ≤ length s.now) × (W ≤ 8) }
+    ensures { (result ≡ number_at (order_if BIG) W s.now at.0) × (result < 256 ^ W) }
 {
     let mut v = 0;
     let mut p = 1;
     for n in (0..W).rev() {
-        v += u64::from(s[at + place::<BIG>(W, n)]) * p;
+        v += u64::from(s[at.0 + place::<BIG>(W, n)]) * p;
         // behind the highest of eight digits there is no place
         p = p.wrapping_mul(256);
     }
@@ -36,19 +36,19 @@ pub fn read<const W: usize>(s: &[u8], at: Offset, order: Endianness) -> u64
     ensures { (result ≡ number_at order W s.now at.0) × (result < 256 ^ W) }
 {
     match order {
-        Endianness::BigEndian => number::<W, true>(s, at.0),
-        Endianness::LittleEndian => number::<W, false>(s, at.0),
+        Endianness::BigEndian => number::<W, true>(s, at),
+        Endianness::LittleEndian => number::<W, false>(s, at),
     }
 }
 
 // The lowest digit first.
-fn put<const W: usize, const BIG: bool>(s: &mut [u8], at: usize, x: u64)
-    requires { at + W ≤ length s.old }
-    ensures { s.new ≡ take at s.old ++ (bytes_of (order_if BIG) W x ++ drop (at + W) s.old) }
+fn put<const W: usize, const BIG: bool>(s: &mut [u8], at: Offset, x: u64)
+    requires { at.0 + W ≤ length s.old }
+    ensures { s.new ≡ take at.0 s.old ++ (bytes_of (order_if BIG) W x ++ drop (at.0 + W) s.old) }
 {
     let mut y = x;
     for n in (0..W).rev() {
-        s[at + place::<BIG>(W, n)] = (y % 256) as u8;
+        s[at.0 + place::<BIG>(W, n)] = (y % 256) as u8;
         y /= 256;
     }
 }
@@ -59,7 +59,7 @@ pub fn write<const W: usize>(s: &mut [u8], at: Offset, order: Endianness, x: u64
     ensures { s.new ≡ take at.0 s.old ++ (bytes_of order W x ++ drop (at.0 + W) s.old) }
 {
     match order {
-        Endianness::BigEndian => put::<W, true>(s, at.0, x),
-        Endianness::LittleEndian => put::<W, false>(s, at.0, x),
+        Endianness::BigEndian => put::<W, true>(s, at, x),
+        Endianness::LittleEndian => put::<W, false>(s, at, x),
     }
 }

@@ -15,6 +15,11 @@ pub mod Siblings
 pub mod Steps
 pub mod Fits
 pub mod EmptyPoint
+pub mod IsoForm
+pub mod IsoFits
+pub mod IsoLength
+pub mod WriterAnswers
+pub mod WrittenBack
 pub mod OneAnswer
 pub mod Rules
 pub mod Listed

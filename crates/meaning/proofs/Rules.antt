@@ -8,9 +8,9 @@ use mathlib.Core.Option.{none, some}
 use lib.Ieee.{is_nan as is_float_nan, of_bits, binary64}
 use lib.Ieee.Bits.{nan_bits_is, nan_bits_above}
 use borrow.Author.Tests.{ne_eqb, le-leb, lt-leb}
-use Rattle.meaning.specs.declared.Dimension.TheVariants.{Xym}
-use Rattle.meaning.specs.declared.Kind.TheVariants.{GeometryCollection}
-use Rattle.meaning.specs.Code.{axes, kind_number, kind_of, dimension_of}
+use Rattle.meaning.specs.declared.Dimension.TheVariants.{Xy, Xyz, Xym, Xyzm}
+use Rattle.meaning.specs.declared.Kind.TheVariants.{Point, GeometryCollection}
+use Rattle.meaning.specs.Code.{axes, kind_number, kind_of, dimension_of, type_of}
 use Rattle.meaning.specs.Grammar.{Header, Ordinates, Forest, is_nan, geometries, inside}
 use Rattle.meaning.specs.Answer.{refused}
 use Rattle.meaning.specs.Table.{rows_in, row_of, rows_of, filled}
@@ -22,6 +22,18 @@ carried true true = refl
 carried true false = refl
 carried false true = refl
 carried false false = refl
+
+-- "Flags: Z 0x80000000, M 0x40000000, SRID 0x20000000. With any flag set, .. Z and M give the dimension." With none, 1 is an Xy Point too.
+pub flags_said : (z m s : Bool) → type_of (cond z 0x8000_0000 0 + cond m 0x4000_0000 0 + cond s 0x2000_0000 0 + 1) ≡ some (record { kind = Point; dimension = cond z (cond m Xyzm Xyz) (cond m Xym Xy); srid = s })
+unfolding type_of
+flags_said true true true = refl
+flags_said true true false = refl
+flags_said true false true = refl
+flags_said true false false = refl
+flags_said false true true = refl
+flags_said false true false = refl
+flags_said false false true = refl
+flags_said false false false = refl
 
 -- "so in Xym the third number is M", and there is no Z
 pub third_is_m : (position 3 (axes Xym) ≡ some 2) × (position 2 (axes Xym) ≡ none)

@@ -10,12 +10,12 @@ use Rattle.meaning.specs.declared.Refusal.{Refusal}
 use Rattle.meaning.specs.declared.Refusal.TheVariants.{TooLong, PastEnd, ByteOrder, TypeCode, WrongChild, ChildSrid, TooDeep, TooFewRows, Unsound, NotThere, OutputTooShort}
 use Rattle.meaning.specs.declared.WkbType.{WkbType}
 
--- "Each refusal returns number and place"
+-- "Each refusal returns number and place and changes no lent memory": what stays is said with each answer (`tabled`, `written`)
 pub data Answer (A : Type 0) : Type 0 where
   refused : ℕ → ℕ → Answer A
   answered : A → Answer A
 
--- the table of refusal numbers: number and place
+-- the table of "Refusal numbers": number and place, such as 5 at the "child's code" and 8 with the "rows needed"
 abbrev pub numbered : Refusal → ℕ × ℕ
 numbered TooLong = (1, 0)
 numbered (PastEnd p) = (2, p.0)

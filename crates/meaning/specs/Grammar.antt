@@ -10,7 +10,8 @@ use Rattle.meaning.specs.declared.WkbType.{WkbType}
 use Rattle.meaning.specs.Number.{Each, order_byte, bytes_of}
 use Rattle.meaning.specs.Code.{size, kind_number, kind_of, same_kind, dimension_number, type_of}
 
--- what opens a geometry: kind, dimension, byte order, type code (0 for a ring), SRID
+-- what opens a geometry: kind, dimension, byte order, type code (0 for a ring), SRID; "a geometry" has the last four, and "A ring has its
+-- polygon's order and dimension"
 pub record Header : Type 0 where
   pub kind : Kind
   pub dimension : Dimension
@@ -18,11 +19,11 @@ pub record Header : Type 0 where
   pub code : ℕ
   pub srid : Option ℕ
 
--- a coordinate: its ordinates' 64-bit patterns, in the order of the dimension's axes
+-- a coordinate: its ordinates, "64-bit IEEE 754 patterns, kept bit for bit", in the order of the dimension's axes
 abbrev pub Ordinates : Type 0
 Ordinates = List ℕ
 
--- Siblings in reading order: the first one's header, its coordinates, its children; then the siblings after it.
+-- Siblings in reading order: the first one's header, its coordinates, its children; then the siblings after it. "A count may be 0."
 pub data Forest : Type 0 where
   empty : Forest
   first : Header → List Ordinates → Forest → Forest → Forest
@@ -80,7 +81,7 @@ srid_bytes o (some s) = bytes_of o 4 s
 abbrev pub count_bytes : Header → ℕ → List ℕ
 count_bytes h n = cond (same_kind h.kind Point) [] (bytes_of h.order 4 n)
 
--- "that many coordinates"
+-- "LineString (2), a 4-byte count and that many coordinates"; a ring is "a count and its coordinates"
 abbrev pub ordinate_bytes : Endianness → List Ordinates → List ℕ
 ordinate_bytes o cs = flat_map (λ xs. flat_map (bytes_of o 8) xs) cs
 
@@ -88,6 +89,7 @@ ordinate_bytes o cs = flat_map (λ xs. flat_map (bytes_of o 8) xs) cs
 abbrev pub front : Header → ℕ → List ℕ
 front h n = header_bytes h ++ (srid_bytes h.order h.srid ++ count_bytes h n)
 
+-- "a count and that many full geometries", "a count and that many geometries of any kind": one after the other, each whole
 unfoldable pub bytes : Forest → List ℕ
 bytes empty = []
 bytes (first h cs kids rest) = front h (count h cs kids) ++ (ordinate_bytes h.order cs ++ (bytes kids ++ bytes rest))
@@ -109,8 +111,8 @@ pub data Place : Type 0 where
 abbrev pub outermost : Place
 outermost = geometries (record { kind = none; dimension = none; srid = true })
 
--- "Polygon (3), a count and that many rings"; "Inside kinds 4 to 6 a child has the named kind" 1, 2, 3 "and its parent's dimension.
--- Inside kind 7 a child may have any dimension."
+-- "Polygon (3), a count and that many rings, each a count and its coordinates." "Inside kinds 4 to 6 a child has the named kind" 1, 2, 3
+-- "and its parent's dimension. Inside kind 7 a child may have any dimension." "Only the outermost geometry may carry an SRID."
 unfoldable pub inside : Header → Place
 inside h =
     cond (same_kind h.kind Polygon)
@@ -119,17 +121,21 @@ inside h =
     (geometries (record { kind = some (kind_of (kind_number h.kind - 3)); dimension = some h.dimension; srid = false }))
     (geometries (record { kind = none; dimension = none; srid = false })))
 
+-- "the named kind", where one is named
 abbrev pub asked : Option Kind → Kind → Bool
 asked none j = true
 asked (some k) j = same_kind j k
 
+-- "its parent's dimension", where one is asked
 abbrev pub asked_dimension : Option Dimension → Dimension → Bool
 asked_dimension none d = true
 asked_dimension (some e) d = eqb (dimension_number d) (dimension_number e)
 
+-- 5: "child's kind or dimension wrong for a parent of kind 4 to 6", unless this holds
 abbrev pub fits : Asks → WkbType → Bool
 fits a t = asked a.kind t.kind && asked_dimension a.dimension t.dimension
 
+-- 6: "child has the SRID flag", unless this holds
 abbrev pub srid_fits : Asks → WkbType → Bool
 srid_fits a t = a.srid || not t.srid
 
@@ -141,6 +147,7 @@ abbrev pub is_some : {A : Type 0} → Option A → Bool
 is_some none = false
 is_some (some a) = true
 
+-- "four bytes of SRID"
 abbrev pub Fits32 : Option ℕ → Type 0
 Fits32 none = Unit
 Fits32 (some s) = s < 2 ^ 32
@@ -162,6 +169,7 @@ pub record GeometryHeader (a : Asks) (l : ℕ) (h : Header) : Type 0 where
 abbrev pub ring_header : Endianness → Dimension → Header
 ring_header o d = record { kind = Ring; dimension = d; order = o; code = 0; srid = none }
 
+-- what opens a sibling at a place and a level
 abbrev pub HeaderAt : Place → ℕ → Header → Type 0
 HeaderAt (rings o d) l h = h ≡ ring_header o d
 HeaderAt (geometries a) l h = GeometryHeader a l h

@@ -34,7 +34,7 @@ same_words [] (y ∷ ys) = false
 same_words (x ∷ xs) [] = false
 same_words (x ∷ xs) (y ∷ ys) = eqb x y && same_words xs ys
 
--- "the table has at least n rows, and its first 2n words are those rows. Later words don't count."
+-- "the table has at least n rows, and its first 2n words are those rows. Later words don't count. Rows below n are the listed rows."
 abbrev pub holds : Answer (Forest × ℕ) → List ℕ → Bool
 holds (refused n p) t = false
 holds (answered x) t = leb (rows_in x.0) (rows_of t) && same_words (take (2 * rows_in x.0) t) (words_of x.0)
@@ -56,6 +56,7 @@ unfoldable pub position : ℕ → List ℕ → Option ℕ
 position a [] = none
 position a (x ∷ xs) = cond (eqb a x) (some 0) (map suc (position a xs))
 
+-- 10: "the dimension lacks the axis"
 abbrev pub on_axis : Option ℕ → ℕ → Answer ℕ
 on_axis none a = refused 10 a
 on_axis (some j) a = answered j

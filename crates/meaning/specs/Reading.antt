@@ -40,6 +40,7 @@ abbrev pub known : Option WkbType → ℕ → Reader WkbType
 known none p = λ at. refused 4 p
 known (some t) p = give t
 
+-- "one order byte, 0 big or 1 little"
 abbrev pub order_of : ℕ → Endianness
 order_of zero = BigEndian
 order_of (suc n) = LittleEndian
@@ -71,6 +72,7 @@ module _ (b : List ℕ) where
     guard (leb x 1) 3 at
     give (order_of x)
 
+  -- "2 for the SRID"
   abbrev pub srid : Bool → Endianness → Reader (Option ℕ)
   srid false o = give none
   srid true o = do
@@ -115,6 +117,7 @@ module _ (b : List ℕ) where
     rest ← forest (suc d) n p l
     give (first h cs kids rest)
 
--- 1: "buffer longer than 1,048,575", at 0: "Rule 1 comes first." Nineteen levels are enough (proofs/Levels.antt)
+-- 1: "buffer longer than 1,048,575", at 0: "Rule 1 comes first." Nineteen levels are enough (proofs/Levels.antt). "Bytes past the prefix
+-- never alter an answer", since the forest ends where its last field does.
 unfoldable pub reading : List ℕ → Answer (Forest × ℕ)
 reading b = cond (leb (length b) 1048575) (forest b 19 1 outermost 0 0) (refused 1 0)

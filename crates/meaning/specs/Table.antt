@@ -52,6 +52,7 @@ Span = ℕ × ℕ
 abbrev pub ordinate_size : RowFields → ℕ
 ordinate_size r = 8 * size r.dimension * cond (holds_coordinates r.kind) (cond (same_kind r.kind Point) 1 r.count) 0
 
+-- those of one row; "no byte belongs to two"
 abbrev pub spans : RowFields → List Span
 spans r =
     let header : ℕ = cond (same_kind r.kind Ring) 0 5 in
@@ -106,6 +107,7 @@ word_a r = pack (fields_a r)
 abbrev pub word_b : RowFields → ℕ
 word_b r = pack (fields_b r)
 
+-- a row that its two words can hold
 abbrev pub RowFits : RowFields → Type 0
 RowFits r = Fit (fields_a r) × Fit (fields_b r)
 

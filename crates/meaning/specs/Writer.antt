@@ -23,6 +23,7 @@ iso_header o h = record {
 abbrev pub iso_coordinates : Header → List Ordinates → List Ordinates
 iso_coordinates h cs = cond (empty_point h cs) (replicate (size h.dimension) 0x7FF8_0000_0000_0000 ∷ []) cs
 
+-- "the geometry", in one order: each header and each point so, in the same nesting
 unfoldable pub iso_form : Endianness → Forest → Forest
 iso_form o empty = empty
 iso_form o (first h cs kids rest) = first (iso_header o h) (iso_coordinates h cs) (iso_form o kids) (iso_form o rest)
@@ -30,7 +31,7 @@ iso_form o (first h cs kids rest) = first (iso_header o h) (iso_coordinates h cs
 abbrev pub iso_bytes : Endianness → Forest → List ℕ
 iso_bytes o t = bytes (iso_form o t)
 
--- "then 11, else the geometry"; "Success returns the output length"; "Bytes beyond stay."
+-- "then 11, else the geometry"; "Success returns the output length: the prefix length, less 4 if row 0 has an SRID. Bytes beyond stay."
 abbrev pub written : List ℕ → List ℕ → Answer ℕ × List ℕ
 written iso out =
     cond (leb (length iso) (length out))
@@ -53,6 +54,7 @@ pub record SameNode (h : Header) (cs : List Ordinates) (k : Header) (ds : List O
   pub dimension : h.dimension ≡ k.dimension
   pub ordinates : shown h cs ≡ shown k ds
 
+-- "in the same nesting"
 abbrev pub Same : Forest → Forest → Type 0
 Same empty empty = Unit
 Same empty (first k ds below after) = ⊥

@@ -1,5 +1,5 @@
--- Never refused: on a checked pair each fitting question about a listed row answers, and the answer is the tree's own. Assumes nothing.
-use Prim.Native.Nat.{ℕ, zero, suc, ◌+◌, ◌*◌, ◌≤◌, ◌<◌}
+-- Questions about the coordinates of a listed row: fitting ones are answered, and every answer is the tree's own. Assumes nothing.
+use Prim.Native.Nat.{ℕ, suc, ◌+◌, ◌*◌, ◌≤◌, ◌<◌}
 use native.Mathlib.Nat.{mul-le-mul_left, mul-zero}
 use native.Mathlib.Omega.{arith}
 use mathlib.Core.Path.{◌≡◌, refl, sym, ap, ap₂, ◌∙◌}
@@ -10,40 +10,24 @@ use lib.ListN.{length, take, drop, get_or, get_elem?, length-append, length-drop
 use lib.Seq.{take_at}
 use lib.Dec.{leb, ltb, eqb}
 use lib.Ieee.{Float, of_bits, binary64}
-use borrow.Author.Tests.{le-leb, lt-ltb}
+use borrow.Author.Tests.{le-leb, lt-ltb, ltb-true}
+use Rattle.meaning.specs.declared.Endianness.{Endianness}
 use Rattle.meaning.specs.declared.Dimension.{Dimension}
 use Rattle.meaning.specs.declared.Dimension.TheVariants.{Xy, Xyz, Xym, Xyzm}
 use Rattle.meaning.specs.declared.Coordinate.{Coordinate}
 use Rattle.meaning.specs.declared.RowFields.{RowFields}
-use Rattle.meaning.specs.Number.{Bytes, number_at}
+use Rattle.meaning.specs.Number.{number_at}
 use Rattle.meaning.specs.Code.{axes, size}
-use Rattle.meaning.specs.Grammar.{Header, Ordinates, Forest, Node, nodes, holds_coordinates, empty_point, shown, count, front, ordinate_bytes, bytes, outermost}
-use Rattle.meaning.specs.Answer.{Answer, refused, answered}
-use Rattle.meaning.specs.Table.{row_of, rows, rows_of, fetch}
-use Rattle.meaning.specs.Questions.{guard, ◌>>=◌, ◌>>◌, position, on_axis, ordinate, float_of, coordinate, coords_slice, coords_form}
+use Rattle.meaning.specs.Grammar.{Header, Ordinates, Forest, nodes, holds_coordinates, empty_point, shown, count, front, ordinate_bytes, bytes}
+use Rattle.meaning.specs.Answer.{Answer, answered}
+use Rattle.meaning.specs.Table.{row_of, rows_of, fetch}
+use Rattle.meaning.specs.Questions.{guard, ◌>>=◌, ◌>>◌, position, on_axis, sound, ordinate, float_of, coordinate, coords_slice, coords_form}
 use Rattle.meaning.proofs.Fields.{behind}
 use Rattle.meaning.proofs.Coordinates.{ordinate_at, length_ordinate_bytes}
-use Rattle.meaning.proofs.Accepted.{accepted_exactly, accepted_short, begins_split}
 use Rattle.meaning.proofs.Sizes.{front_some}
-use Rattle.meaning.proofs.Siblings.{length_rows}
-use Rattle.meaning.proofs.Listed.{Lists, pairs_nth, nodes_listed}
-use Rattle.questions.proofs.Checked.{Listed}
-use Rattle.questions.proofs.Fetched.{fetch_listed}
-
-nth_get : {A : Type 0} (xs : List A) (r : ℕ) (x : A) → get_elem? xs r ≡ some x → (r < length xs) × (get_or xs r x ≡ x)
-nth_get [] r x e = let z : ◌≡◌ {A = ℕ} 0 1 = cc in absurd (omega arith)
-nth_get (y ∷ ys) zero x e = let i : y ≡ x = cc in (omega arith, i)
-nth_get (y ∷ ys) (suc r) x e = let (lt, i) = nth_get ys r x e in (omega arith, i)
-
-module _ (b : List ℕ) (all : Bytes b) (t : List ℕ) (f : Forest) (n : ℕ) (l : Listed b t f n) where
-  -- the row that lists a node
-  pub listed_row : (r : ℕ) (x : Node) → get_elem? (nodes f) r ≡ some x → (y : RowFields) × (fetch t r ≡ y) × (r < rows_of t) × Lists b x y
-  listed_row r x e =
-      let (g, p) = (accepted_exactly b all (accepted_short b (f, n) l.read) f n).0 l.read in
-      let (y, i, s) = pairs_nth (Lists b) (nodes f) (rows 0 0 f) r x (nodes_listed b f outermost 0 0 (drop n b) g.well_formed (begins_split b f n p)) e in
-      let (lt, j) = nth_get (rows 0 0 f) r y i in
-      let ln = length_rows f 0 0 in
-      (y, fetch_listed b all t f n l r (omega arith) y ∙ j, omega (arith, l.room), s)
+use Rattle.meaning.proofs.Listed.{Lists}
+use Rattle.questions.specs.Tree.{ordinate_in, coordinate_in, part_in, form_in}
+use Rattle.questions.proofs.Begun.{Begun, listed_row}
 
 -- ---- coordinates
 
@@ -106,30 +90,31 @@ position_below a (x ∷ xs) j e = go (eqb a x) (position a xs) (position_below a
     go false none i f = let z : ◌≡◌ {A = ℕ} 0 1 = cc in absurd (omega arith)
     go false (some k) i f = let q : suc k ≡ j = cc in let lt = i k refl in omega arith
 
--- ordinate by a row's fields
-abbrev ordinate_by : List ℕ → ℕ → ℕ → ℕ → Bool → RowFields → Answer ℕ
-ordinate_by b r i a here y = do
-  guard (sound_by b here y) 9 r
-  guard (ltb i y.count) 10 i
-  j ← on_axis (position a (axes y.dimension)) a
+-- what a row's fields give for an index and an axis, by two tests
+abbrev found : List ℕ → RowFields → ℕ → ℕ → Bool → Option ℕ → Answer ℕ
+found b y i a v o = do
+  guard v 10 i
+  j ← on_axis o a
   answered (number_at y.order 8 b (y.body.0 + 8 * (size y.dimension * i + j)))
 
-module _ (b : List ℕ) (h : Header) (cs : List Ordinates) (kids : Forest) (y : RowFields) (s : Lists b (h, cs, kids) y) (k : holds_coordinates h.kind ≡ true) where
-  ordinate_there : (r i a j : ℕ) → i < length (shown h cs) → position a (axes h.dimension) ≡ some j
-      → ordinate_by b r i a true (row_of s.at s.level h cs kids) ≡ answered (get_or (get_or (shown h cs) i []) j 0)
-  ordinate_there r i a j lt p =
-      let c = counted b h cs kids y s k in
-      let same = shown_some h cs i lt in
-      let few = shown_few h cs in
-      rw (sound_row b h cs kids y s k, lt-ltb i (count h cs kids) (omega arith), p)
-      (ap answered (ordinate_at b h.order (size h.dimension) cs (s.at + length (front h (count h cs kids))) (bytes kids ++ s.behind) (body_there b h cs kids y s k) s.body.ordinates i j
-      (omega arith) (position_below a (axes h.dimension) j p)
-      ∙ ap (λ (xs : List Ordinates). get_or (get_or xs i []) j 0) (sym same)))
+-- what a coordinate of the tree gives
+abbrev told : Ordinates → ℕ → ℕ → Bool → Option ℕ → Answer ℕ
+told xs i a v o = do
+  guard v 10 i
+  j ← on_axis o a
+  answered (get_or xs j 0)
 
-  ordinate_lacks : (r i a : ℕ) → i < length (shown h cs) → position a (axes h.dimension) ≡ none → ordinate_by b r i a true (row_of s.at s.level h cs kids) ≡ refused 10 a
-  ordinate_lacks r i a lt p =
-      let c = counted b h cs kids y s k in
-      rw (sound_row b h cs kids y s k, lt-ltb i (count h cs kids) (omega arith), p)
+module _ (b : List ℕ) (h : Header) (cs : List Ordinates) (kids : Forest) (y : RowFields) (s : Lists b (h, cs, kids) y) (k : holds_coordinates h.kind ≡ true) where
+  ordinate_there : (i a : ℕ) (v : Bool) (o : Option ℕ) → ltb i (length (shown h cs)) ≡ v → position a (axes h.dimension) ≡ o
+      → found b (row_of s.at s.level h cs kids) i a v o ≡ told (get_or (shown h cs) i []) i a v o
+  ordinate_there i a false o c p = refl
+  ordinate_there i a true none c p = refl
+  ordinate_there i a true (some j) c p =
+      let lt = ltb-true i (length (shown h cs)) c in
+      let few = shown_few h cs in
+      ap answered (ordinate_at b h.order (size h.dimension) cs (s.at + length (front h (count h cs kids))) (bytes kids ++ s.behind) (body_there b h cs kids y s k) s.body.ordinates i j
+      (omega arith) (position_below a (axes h.dimension) j p)
+      ∙ ap (λ (xs : List Ordinates). get_or (get_or xs i []) j 0) (sym (shown_some h cs i lt)))
 
   part_there : take (8 * size h.dimension * count h cs kids) (drop (s.at + length (front h (count h cs kids))) b) ≡ ordinate_bytes h.order (shown h cs)
   unfolding flat_map
@@ -165,51 +150,99 @@ x_first Xyz = refl
 x_first Xym = refl
 x_first Xyzm = refl
 
-module _ (b : List ℕ) (all : Bytes b) (t : List ℕ) (f : Forest) (n : ℕ) (l : Listed b t f n) (r : ℕ) (h : Header) (cs : List Ordinates) (kids : Forest)
+module _ (b t : List ℕ) (f : Forest) (g : Begun b t f) (r : ℕ) (h : Header) (cs : List Ordinates) (kids : Forest)
     (e : get_elem? (nodes f) r ≡ some (h, cs, kids)) where
-  module _ (k : holds_coordinates h.kind ≡ true) where
-    pub ordinate_answered : (i a j : ℕ) → i < length (shown h cs) → position a (axes h.dimension) ≡ some j → ordinate b t r i a ≡ answered (get_or (get_or (shown h cs) i []) j 0)
-    unfolding ordinate
-    ordinate_answered i a j lt p =
-        let (y, fe, here, s) = listed_row b all t f n l r (h, cs, kids) e in
-        let w = row_of s.at s.level h cs kids in
-        ap₂ (ordinate_by b r i a) (lt-ltb r (rows_of t) here) (fe ∙ s.row)
-        ∙ ordinate_there b h cs kids y s k r i a j lt p
+  -- a listed row passes the first test exactly if its kind does
+  sound_listed : sound b t r ≡ holds_coordinates h.kind
+  sound_listed =
+      let (y, fe, here, s) = listed_row b t f g r (h, cs, kids) e in
+      ap₂ (sound_by b) (lt-ltb r (rows_of t) here) (fe ∙ s.row) ∙ go y s (holds_coordinates h.kind) refl
+    where
+      go : (y : RowFields) (s : Lists b (h, cs, kids) y) (u : Bool) → holds_coordinates h.kind ≡ u → sound_by b true (row_of s.at s.level h cs kids) ≡ holds_coordinates h.kind
+      go y s false k = rw k
+      go y s true k = sound_row b h cs kids y s k ∙ sym k
 
-    float_there : (i a : ℕ) → i < length (shown h cs) → float_of (ordinate b t r i a) ≡ float_in (position a (axes h.dimension)) (get_or (shown h cs) i [])
-    unfolding ordinate
-    float_there i a lt = go (position a (axes h.dimension)) refl
+  -- ---- for any kind, index and axis
+
+  pub ordinate_listed : (i a : ℕ) → ordinate b t r i a ≡ ordinate_in r h cs i a
+  unfolding ordinate
+  ordinate_listed i a =
+      let (y, fe, here, s) = listed_row b t f g r (h, cs, kids) e in
+      ap₂ (λ (u : Bool) (w : RowFields). ◌>>◌ (guard u 9 r) (found b w i a (ltb i w.count) (position a (axes w.dimension)))) sound_listed (fe ∙ s.row)
+      ∙ go y s (holds_coordinates h.kind) refl
+    where
+      o : Option ℕ
+      o = position a (axes h.dimension)
+
+      go : (y : RowFields) (s : Lists b (h, cs, kids) y) (u : Bool) → holds_coordinates h.kind ≡ u
+          → ◌>>◌ (guard u 9 r) (found b (row_of s.at s.level h cs kids) i a (ltb i (count h cs kids)) o) ≡ ◌>>◌ (guard u 9 r) (told (get_or (shown h cs) i []) i a (ltb i (length (shown h cs))) o)
+      go y s false k = refl
+      go y s true k =
+          ap (λ (m : ℕ). found b (row_of s.at s.level h cs kids) i a (ltb i m) o) (counted b h cs kids y s k)
+          ∙ ordinate_there b h cs kids y s k i a (ltb i (length (shown h cs))) o refl refl
+
+  pub coordinate_listed : (i : ℕ) → coordinate b t r i ≡ coordinate_in r h cs i
+  coordinate_listed i =
+      let (y, fe, here, s) = listed_row b t f g r (h, cs, kids) e in
+      let d : (fetch t r).dimension ≡ h.dimension = ap (λ (w : RowFields). w.dimension) (fe ∙ s.row) in
+      let o = ordinate_listed i in
+      λ u. ◌>>=◌ (o 0 u) (λ x. answered (record { dimension = d u; x = of_bits binary64 x; y = float_of (o 1 u); z = float_of (o 2 u); m = float_of (o 3 u) }))
+
+  pub part_listed : coords_slice b t r ≡ part_in h cs
+  part_listed =
+      let (y, fe, here, s) = listed_row b t f g r (h, cs, kids) e in
+      ap₂ (λ (u : Bool) (w : RowFields). cond u (take (8 * size w.dimension * w.count) (drop w.body.0 b)) []) sound_listed (fe ∙ s.row)
+      ∙ go y s (holds_coordinates h.kind) refl
+    where
+      go : (y : RowFields) (s : Lists b (h, cs, kids) y) (u : Bool) → holds_coordinates h.kind ≡ u
+          → cond u (take (8 * size h.dimension * count h cs kids) (drop (s.at + length (front h (count h cs kids))) b)) [] ≡ cond u (ordinate_bytes h.order (shown h cs)) []
+      go y s false k = refl
+      go y s true k = part_there b h cs kids y s k
+
+  pub form_listed : coords_form b t r ≡ form_in r h cs
+  form_listed =
+      let (y, fe, here, s) = listed_row b t f g r (h, cs, kids) e in
+      ap₂ (λ (u : Bool) (w : RowFields). ◌>>◌ (guard u 9 r) (answered (w.order, w.count))) sound_listed (fe ∙ s.row)
+      ∙ go y s (holds_coordinates h.kind) refl
+    where
+      go : (y : RowFields) (s : Lists b (h, cs, kids) y) (u : Bool) → holds_coordinates h.kind ≡ u
+          → ◌>>◌ {B = Endianness × ℕ} (guard u 9 r) (answered (h.order, count h cs kids)) ≡ ◌>>◌ (guard u 9 r) (answered (h.order, length (shown h cs)))
+      go y s false k = refl
+      go y s true k = ap (λ (m : ℕ). answered (h.order, m)) (counted b h cs kids y s k)
+
+  -- ---- where the kind, the index and the axis fit
+
+  module _ (k : holds_coordinates h.kind ≡ true) where
+    ordinate_told : (i a : ℕ) → i < length (shown h cs) → ordinate_in r h cs i a ≡ told (get_or (shown h cs) i []) i a true (position a (axes h.dimension))
+    ordinate_told i a lt =
+        ap₂ (λ (u v : Bool). ◌>>◌ (guard u 9 r) (told (get_or (shown h cs) i []) i a v (position a (axes h.dimension)))) k (lt-ltb i (length (shown h cs)) lt)
+
+    pub ordinate_answered : (i a j : ℕ) → i < length (shown h cs) → position a (axes h.dimension) ≡ some j → ordinate b t r i a ≡ answered (get_or (get_or (shown h cs) i []) j 0)
+    ordinate_answered i a j lt p = ordinate_listed i a ∙ ordinate_told i a lt ∙ ap (told (get_or (shown h cs) i []) i a true) p
+
+    float_told : (i a : ℕ) → i < length (shown h cs) → float_of (ordinate_in r h cs i a) ≡ float_in (position a (axes h.dimension)) (get_or (shown h cs) i [])
+    float_told i a lt = ap float_of (ordinate_told i a lt) ∙ go (position a (axes h.dimension))
       where
-        go : (o : Option ℕ) → position a (axes h.dimension) ≡ o → float_of (ordinate b t r i a) ≡ float_in o (get_or (shown h cs) i [])
-        go none p =
-            let (y, fe, here, s) = listed_row b all t f n l r (h, cs, kids) e in
-            ap float_of (ap₂ (ordinate_by b r i a) (lt-ltb r (rows_of t) here) (fe ∙ s.row) ∙ ordinate_lacks b h cs kids y s k r i a lt p)
-        go (some j) p = ap float_of (ordinate_answered i a j lt p)
+        go : (o : Option ℕ) → float_of (told (get_or (shown h cs) i []) i a true o) ≡ float_in o (get_or (shown h cs) i [])
+        go none = refl
+        go (some j) = refl
 
     pub coordinate_answered : (i : ℕ) → i < length (shown h cs) → coordinate b t r i ≡ answered (coordinate_of h.dimension (get_or (shown h cs) i []))
     coordinate_answered i lt =
-        let (y, fe, here, s) = listed_row b all t f n l r (h, cs, kids) e in
         let xs = get_or (shown h cs) i [] in
-        let x = ordinate_answered i 0 0 lt (x_first h.dimension) in
-        ap (λ (o : Answer ℕ). ◌>>=◌ o (λ v. answered (record { dimension = (fetch t r).dimension; x = of_bits binary64 v; y = float_of (ordinate b t r i 1); z = float_of (ordinate b t r i 2); m = float_of (ordinate b t r i 3) }))) x
-        ∙ (λ u. answered (record {
-          dimension = ap (λ (w : RowFields). w.dimension) (fe ∙ s.row) u;
-          x = ap (λ (o : Option ℕ). float_in o xs) (sym (x_first h.dimension)) u;
-          y = float_there i 1 lt u;
-          z = float_there i 2 lt u;
-          m = float_there i 3 lt u;
-        }))
+        let first = ordinate_told i 0 lt ∙ ap (told xs i 0 true) (x_first h.dimension) in
+        coordinate_listed i
+        ∙ (λ u. ◌>>=◌ (first u) (λ x. answered (record { dimension = h.dimension; x = of_bits binary64 x; y = float_told i 1 lt u; z = float_told i 2 lt u; m = float_told i 3 lt u })))
+        ∙ ap (λ (o : Option ℕ). answered (record {
+          dimension = h.dimension;
+          x = float_in o xs;
+          y = float_in (position 1 (axes h.dimension)) xs;
+          z = float_in (position 2 (axes h.dimension)) xs;
+          m = float_in (position 3 (axes h.dimension)) xs;
+        })) (sym (x_first h.dimension))
 
     pub part_answered : coords_slice b t r ≡ ordinate_bytes h.order (shown h cs)
-    part_answered =
-        let (y, fe, here, s) = listed_row b all t f n l r (h, cs, kids) e in
-        ap₂ (λ (z : Bool) (w : RowFields). cond (sound_by b z w) (take (8 * size w.dimension * w.count) (drop w.body.0 b)) []) (lt-ltb r (rows_of t) here) (fe ∙ s.row)
-        ∙ ap (λ (z : Bool). cond z (take (8 * size h.dimension * count h cs kids) (drop (s.at + length (front h (count h cs kids))) b)) []) (sound_row b h cs kids y s k)
-        ∙ part_there b h cs kids y s k
+    part_answered = part_listed ∙ ap (λ (u : Bool). cond u (ordinate_bytes h.order (shown h cs)) []) k
 
     pub form_answered : coords_form b t r ≡ answered (h.order, length (shown h cs))
-    form_answered =
-        let (y, fe, here, s) = listed_row b all t f n l r (h, cs, kids) e in
-        ap₂ (λ (z : Bool) (w : RowFields). ◌>>◌ (guard (sound_by b z w) 9 r) (answered (w.order, w.count))) (lt-ltb r (rows_of t) here) (fe ∙ s.row)
-        ∙ ap (λ (z : Bool). ◌>>◌ (guard z 9 r) (answered (h.order, count h cs kids))) (sound_row b h cs kids y s k)
-        ∙ ap (λ (m : ℕ). answered (h.order, m)) (counted b h cs kids y s k)
+    form_answered = form_listed ∙ ap (λ (u : Bool). ◌>>◌ (guard u 9 r) (answered (h.order, length (shown h cs)))) k

@@ -18,12 +18,12 @@ fn is_nan(bits: u64) -> bool
 }
 
 // How many coordinates a Point of n ordinates counts for: none if all of them are NaN.
-fn point_count(buf: &[u8], at: usize, n: usize, order: Endianness) -> usize
-    requires { at + 8 * n ≤ length buf.now }
-    ensures { result ≡ cond (all_nan buf.now order n at) 0 1 }
+fn point_count(buf: &[u8], at: Offset, n: usize, order: Endianness) -> usize
+    requires { at.0 + 8 * n ≤ length buf.now }
+    ensures { result ≡ cond (all_nan buf.now order n at.0) 0 1 }
 {
     for i in 0..n {
-        if !is_nan(read::<8>(buf, Offset(at + 8 * i), order)) {
+        if !is_nan(read::<8>(buf, Offset(at.0 + 8 * i), order)) {
             return 1;
         }
     }
@@ -37,7 +37,7 @@ pub fn point(buf: &[u8], head: Head) -> Result<Body, Refusal>
     let ordinates = size(head.dimension);
     there(buf, start, 8 * ordinates)?;
     Ok(Body {
-        count: point_count(buf, start.0, ordinates, head.order),
+        count: point_count(buf, start, ordinates, head.order),
         start,
         end: Offset(start.0 + 8 * ordinates),
     })

@@ -1,16 +1,26 @@
-// Reads the records of its input, one to a line, and writes for each what reading it comes to: docs/VECTORS.md.
+// Reads the lines of its input, each a record to read or a question on a table, and writes for each its answer: docs/VECTORS.md.
 #![tactic(auto)]
 
+mod answer;
+mod asked;
 mod describe;
+mod error;
+mod question;
+mod reading;
 mod record;
+mod table;
 
 use arrayvec::ArrayString;
+use asked::MOST_FOR_PART;
 use describe::describe;
 use record::{MOST_BYTES, MOST_WORDS};
 use text::answers::answer_lines;
 
-// Room for the longest answer: a table takes 17 bytes for each word, two numbers of at most 20 digits, and 22 bytes.
+// Room for the longest answer: a table takes 17 bytes for each word, two numbers of at most 20 digits, and 22 bytes. The longest of the
+// others is a coordinate part, of two bytes for each of its own, and 6.
 const ROOM: usize = 17 * MOST_WORDS + 2 * 20 + 22;
+
+const _: () = prove!(2 * MOST_FOR_PART + 6 <= ROOM);
 
 // Room for the input, of which the last byte shows that it is too long.
 const INPUT: usize = 1_048_576;
