@@ -90,6 +90,11 @@ module _ (from order : Endianness) where
       ∙ sym (rewritten_add s (s * n) bs)
       ∙ ap (λ (k : ℕ). rewritten from order k bs) e
 
+  pub length_coordinates : (s n : ℕ) (bs : List ℕ) → length (ordinate_bytes order (coordinates_in from s n bs)) ≡ 8 * s * n
+  length_coordinates s n bs =
+      let m : 8 * (s * n) ≡ 8 * s * n = omega arith in
+      ap length (coordinates_rewritten s n bs) ∙ length_rewritten (s * n) bs ∙ m
+
 -- big to little is little to big
 other_way : (w : List ℕ) → length w ≡ 8 → Bytes w → bytes_of BigEndian 8 (number LittleEndian w) ≡ bytes_of LittleEndian 8 (number BigEndian w)
 other_way w l q =
@@ -132,7 +137,7 @@ abbrev pub repeated : Endianness → ℕ → ℕ → List ℕ
 repeated o n x = ordinate_bytes o (replicate n x ∷ [])
 
 module _ (o : Endianness) (x : ℕ) where
-  length_repeated : (n : ℕ) → length (repeated o n x) ≡ 8 * n
+  pub length_repeated : (n : ℕ) → length (repeated o n x) ≡ 8 * n
   unfolding flat_map
   length_repeated zero = refl
   length_repeated (suc n) =

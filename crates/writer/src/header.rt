@@ -12,7 +12,6 @@ use meaning::{Dimension, Endianness, Kind, Offset};
 // Answers how many bytes it wrote: none for a ring, which has neither and needs no room.
 pub fn write_header(kind: Kind, dimension: Dimension, order: Endianness, out: &mut [u8]) -> usize
     requires { cond (same_kind kind Ring) 0 5 ≤ length out.old }
-    ensures size { result ≡ cond (same_kind kind Ring) 0 5 }
     ensures written { (h : Header) → h.kind ≡ kind → h.dimension ≡ dimension → out.new ≡ header_bytes (iso_header order h) ++ drop (length (header_bytes (iso_header order h))) out.old }
     ensures length { (h : Header) → h.kind ≡ kind → h.dimension ≡ dimension → result ≡ length (header_bytes (iso_header order h)) }
 {
