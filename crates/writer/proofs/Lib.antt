@@ -5,3 +5,4 @@ pub mod Parts
 pub mod Ready
 pub mod Running
 pub mod Turns
+pub mod ReadBack
