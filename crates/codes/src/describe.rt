@@ -1,31 +1,60 @@
 // The line of output for a line of input.
+ghost use Rattle.std.specs.Prelude.{◌+◌, ◌≤◌};
+ghost use Rattle.arrayvec.specs.ArrayVec.{array_vec_len};
+
 use crate::line::code_of;
+use arrayvec::ArrayVec;
 use fields::code::type_of;
 use meaning::WkbType;
-use std::fmt;
+use text::put::{put, put_hex, put_number, put_shown};
 
-// What the line says, or what is wrong with it, where `number` is the line's own.
-pub fn describe<W: fmt::Write>(line: &[u8], number: usize, out: &mut W) -> fmt::Result {
+// What the line says, or what is wrong with it, where `number` is the line's own. It takes the place of what `out` holds, and fits: that a
+// character is no hex digit, the longest, takes two numbers of at most 20 digits, and 95 bytes.
+pub fn describe<const ROOM: usize>(line: &[u8], number: usize, out: &mut ArrayVec<u8, ROOM>)
+    requires { 135 ≤ ROOM }
+    ensures { array_vec_len out.new ≤ 135 }
+{
+    out.clear();
     match code_of(line) {
         Ok(code) => describe_code(code, out),
-        Err(error) => writeln!(
-            out,
-            "line {number}: {error}; expected a type code of 1 to 8 hex digits, such as 200003E9"
-        ),
+        Err(error) => {
+            put(out, b"line ");
+            put_number(out, number);
+            put(out, b": ");
+            put_shown::<46, _, _>(out, &error);
+            put(
+                out,
+                b"; expected a type code of 1 to 8 hex digits, such as 200003E9\n",
+            );
+        }
     }
 }
 
 // The code, and what it says.
-fn describe_code<W: fmt::Write>(code: u32, out: &mut W) -> fmt::Result {
+fn describe_code<const ROOM: usize>(code: u32, out: &mut ArrayVec<u8, ROOM>)
+    requires { array_vec_len out.old + 43 ≤ ROOM }
+    ensures { array_vec_len out.new ≤ array_vec_len out.old + 43 }
+{
+    put_hex::<8, _>(out, u64::from(code));
     let Some(t) = type_of(code) else {
-        return writeln!(out, "{code:08X} refused 4");
+        put(out, b" refused 4\n");
+        return;
     };
     let WkbType {
         kind,
         dimension,
         srid,
     } = t;
-    let number = usize::from(kind);
-    let srid = if srid { "srid" } else { "no srid" };
-    writeln!(out, "{code:08X} {number} {kind} {dimension} {srid}")
+    put(out, b" ");
+    // one digit, the same in hex
+    put_hex::<1, _>(out, usize::from(kind) as u64);
+    put(out, b" ");
+    put(out, kind.name().as_bytes());
+    put(out, b" ");
+    put(out, dimension.name().as_bytes());
+    if srid {
+        put(out, b" srid\n");
+    } else {
+        put(out, b" no srid\n");
+    }
 }

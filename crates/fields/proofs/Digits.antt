@@ -118,6 +118,9 @@ lay_next LittleEndian s at w n y h r =
 pub record Put (o : Endianness) (at w x : ℕ) (s₀ : List ℕ) (y n : ℕ) (s : List ℕ) : Type 0 where
   pub left : laid o n (top_of o at w n) y s ≡ laid o w at x s₀
 
+pub put_none : {o : Endianness} {at w x : ℕ} {s : List ℕ} → Put o at w x s x w s
+put_none = record { left = rw top_all }
+
 module _ {o : Endianness} {at w x : ℕ} {s₀ : List ℕ} {y n : ℕ} {s : List ℕ} (p : Put o at w x s₀ y n s) where
   pub put_next : {j : ℕ} → 0 < n → n ≤ w → at + w ≤ length s → j ≡ place_of o w (n - 1) → Put o at w x s₀ (y / 256) (n - 1) (set s (at + j) (y % 256))
   put_next {j} h g l e =

@@ -1,3 +1,4 @@
+pub mod Codes
 mod Digits
 mod Parts
 pub mod Rows

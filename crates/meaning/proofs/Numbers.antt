@@ -39,11 +39,20 @@ digits_value (b ∷ bs) h =
     let q : (b + 256 * value bs) / 256 ≡ value bs = omega arith in
     ap₂ {C = List ℕ} (λ x xs. x ∷ xs) r (ap (digits (length bs)) q ∙ digits_value bs h.1)
 
+bytes_digits : (w n : ℕ) → Bytes (digits w n)
+unfolding digits
+bytes_digits zero n = tt
+bytes_digits (suc w) n = (omega arith, bytes_digits w (n / 256))
+
 -- ---- in either order
 
 pub length_bytes_of : (o : Endianness) (w n : ℕ) → length (bytes_of o w n) ≡ w
 length_bytes_of BigEndian w n = length-reverse (digits w n) ∙ length_digits w n
 length_bytes_of LittleEndian w n = length_digits w n
+
+pub bytes_bytes_of : (o : Endianness) (w n : ℕ) → Bytes (bytes_of o w n)
+bytes_bytes_of BigEndian w n = each_reverse (λ b. b < 256) (digits w n) (bytes_digits w n)
+bytes_bytes_of LittleEndian w n = bytes_digits w n
 
 pub number_bytes_of : (o : Endianness) (w n : ℕ) → n < 256 ^ w → number o (bytes_of o w n) ≡ n
 number_bytes_of BigEndian w n h = ap value (reverse-reverse (digits w n)) ∙ value_digits w n h

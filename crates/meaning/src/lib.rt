@@ -43,6 +43,24 @@ impl From<Dimension> for usize {
     }
 }
 
+impl Dimension {
+    ghost use Rattle.std.specs.Prelude.{◌≡◌, ◌≤◌, length};
+    ghost use Rattle.meaning.specs.Printed.{dimension_name};
+
+    // The bound is there for callers that have so much room.
+    pub fn name(self) -> &'static str
+        ensures value { result.now ≡ dimension_name self }
+        ensures short { length result.now ≤ 4 }
+    {
+        match self {
+            Dimension::Xy => "Xy",
+            Dimension::Xyz => "Xyz",
+            Dimension::Xym => "Xym",
+            Dimension::Xyzm => "Xyzm",
+        }
+    }
+}
+
 impl fmt::Display for Dimension {
     ghost use Rattle.std.specs.Prelude.{Some};
     ghost use Rattle.meaning.specs.Printed.{dimension_name};
@@ -50,12 +68,7 @@ impl fmt::Display for Dimension {
     ghost output = { λ d. Some (dimension_name d) };
 
     fn fmt<W: fmt::Write>(&self, f: &mut fmt::Formatter<W>) -> fmt::Result {
-        f.write_str(match self {
-            Dimension::Xy => "Xy",
-            Dimension::Xyz => "Xyz",
-            Dimension::Xym => "Xym",
-            Dimension::Xyzm => "Xyzm",
-        })
+        f.write_str(self.name())
     }
 }
 
@@ -84,14 +97,16 @@ impl From<Kind> for usize {
     }
 }
 
-impl fmt::Display for Kind {
-    ghost use Rattle.std.specs.Prelude.{Some};
+impl Kind {
+    ghost use Rattle.std.specs.Prelude.{◌≡◌, ◌≤◌, length};
     ghost use Rattle.meaning.specs.Printed.{kind_name};
 
-    ghost output = { λ k. Some (kind_name k) };
-
-    fn fmt<W: fmt::Write>(&self, f: &mut fmt::Formatter<W>) -> fmt::Result {
-        f.write_str(match self {
+    // The bound is there for callers that have so much room.
+    pub fn name(self) -> &'static str
+        ensures value { result.now ≡ kind_name self }
+        ensures short { length result.now ≤ 18 }
+    {
+        match self {
             Kind::Ring => "Ring",
             Kind::Point => "Point",
             Kind::LineString => "LineString",
@@ -100,7 +115,18 @@ impl fmt::Display for Kind {
             Kind::MultiLineString => "MultiLineString",
             Kind::MultiPolygon => "MultiPolygon",
             Kind::GeometryCollection => "GeometryCollection",
-        })
+        }
+    }
+}
+
+impl fmt::Display for Kind {
+    ghost use Rattle.std.specs.Prelude.{Some};
+    ghost use Rattle.meaning.specs.Printed.{kind_name};
+
+    ghost output = { λ k. Some (kind_name k) };
+
+    fn fmt<W: fmt::Write>(&self, f: &mut fmt::Formatter<W>) -> fmt::Result {
+        f.write_str(self.name())
     }
 }
 

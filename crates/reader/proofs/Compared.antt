@@ -3,7 +3,7 @@ use Prim.Native.Nat.{ℕ, suc, ◌+◌, ◌*◌, ◌/◌, ◌≤◌, ◌<◌}
 use native.Mathlib.Omega.{arith}
 use mathlib.Core.Path.{◌≡◌, refl, sym, ap, ap₂, ◌∙◌}
 use mathlib.Core.Bool.{Bool, true, ◌&&◌, and_assoc, and_comm}
-use mathlib.Core.List.{List, [], ◌∷◌}
+use mathlib.Core.List.{List, [], ◌∷◌, ◌++◌}
 use lib.ListN.{length, take, drop, get_or}
 use lib.Seq.{drop-cons}
 use lib.Dec.{eqb}
@@ -44,6 +44,17 @@ has_words t r (f ∷ fs) h =
     ∙ and_assoc (eqb a (word_a f)) (eqb b (word_b f)) (has_rows t (suc r) fs)
     ∙ ap (λ (x : Bool). eqb a (word_a f) && (eqb b (word_b f) && x)) (sym w)
     ∙ sym (ap₂ (λ (k : ℕ) (l : List ℕ). same_words (take k l) (word_a f ∷ word_b f ∷ words fs)) n d)
+
+-- rows behind others are compared as they are
+pub has_append : (t : List ℕ) (r : ℕ) (fs gs : List RowFields) → has_rows t r (fs ++ gs) ≡ has_rows t r fs && has_rows t (r + length fs) gs
+unfolding list_rows
+has_append t r [] gs = ap (λ (n : ℕ). has_rows t n gs) (omega arith)
+has_append t r (f ∷ fs) gs =
+    ap (λ (b : Bool). b && has_row t r f) (has_append t (suc r) fs gs ∙ ap (λ (n : ℕ). has_rows t (suc r) fs && has_rows t n gs) (omega arith))
+    ∙ swap (has_rows t (suc r) fs) (has_rows t (r + length (f ∷ fs)) gs) (has_row t r f)
+  where
+    swap : (a b c : Bool) → a && b && c ≡ a && c && b
+    swap a b c = and_assoc a b c ∙ ap (λ (x : Bool). a && x) (and_comm b c) ∙ sym (and_assoc a c b)
 
 pub compared : (t : List ℕ) (f : Forest) → rows_in f ≤ length t / 2 → has_rows t 0 (rows 0 0 f) ≡ same_words (take (2 * rows_in f) t) (words (rows 0 0 f))
 compared t f h =

@@ -7,19 +7,22 @@ use mathlib.Core.Bool.{true, false}
 use mathlib.Core.Option.{Option, none, some}
 use mathlib.Core.List.{List}
 use mathlib.Core.Logic.{◌⊎◌, inl, inr}
-use lib.ListN.{get_or}
+use lib.ListN.{length, drop, get_or, length-append, length-drop}
 use mir.Val.{Fits}
 use mir.Syntax.{w8}
 use borrow.Author.Tests.{eqb-true, leb-false}
+use Rattle.meaning.specs.declared.Endianness.{Endianness}
+use Rattle.meaning.specs.declared.Dimension.{Dimension}
 use Rattle.meaning.specs.declared.Kind.{Kind}
 use Rattle.meaning.specs.declared.Kind.TheVariants.{Ring, Point, LineString, Polygon, MultiPoint, MultiLineString, MultiPolygon, GeometryCollection}
 use Rattle.meaning.specs.Code.{kind_number, same_kind}
-use Rattle.meaning.specs.Grammar.{Header, Asks, Place, rings, geometries, inside, holds_coordinates, asked, asked_dimension, HeaderAt}
+use Rattle.meaning.specs.Grammar.{Header, Asks, Place, rings, geometries, inside, holds_coordinates, asked, asked_dimension, header_bytes, srid_bytes, said, GeometryHeader, HeaderAt}
 use Rattle.meaning.specs.Answer.{Answer, refused, answered}
 use Rattle.meaning.specs.Reading.{after, header, forest}
-use Rattle.meaning.proofs.Codes.{both, one_kind}
-use Rattle.meaning.proofs.Headers.{header_from}
+use Rattle.meaning.proofs.Codes.{both, one_kind, ne_same_kind, kind_range}
+use Rattle.meaning.proofs.Headers.{headed, header_from}
 use Rattle.meaning.proofs.Levels.{Enough, EnoughFor, enough_inside, enough_more}
+use Rattle.meaning.proofs.Sizes.{header_size}
 use Rattle.meaning.proofs.Siblings.{body_of, one_read_deep}
 use Rattle.reader.specs.declared.geometry.Head.{Head}
 use Rattle.reader.specs.Asks.{head_of, Heads, viewed}
@@ -76,15 +79,48 @@ module _ (b : List ℕ) (known : (i : ℕ) → Fits w8 (get_or b i 0)) (p : Plac
         let (o, read) = opened_head head e in
         body o.h o.heads ∙ sym (by_header ∙ ap (λ (B : Answer (Header × ℕ)). whole list r l at s (after B (λ h. body_of b 19 h l))) read)
 
+-- ---- the header of a geometry, which is no ring's
+
+headed_some : (a : Asks) (l : ℕ) (h : Header) → GeometryHeader a l h → 5 ≤ length (headed h)
+headed_some a l h g =
+    let k = (kind_range h.code (said h) g.says).0 in
+    let e : length (header_bytes h) ≡ 5 = header_size h ∙ rw (ne_same_kind h.kind Ring (λ i. let z = ap kind_number i in omega arith)) in
+    let f = length-append (header_bytes h) (srid_bytes h.order h.srid) in
+    omega arith
+
+module _ (b : List ℕ) (known : (i : ℕ) → Fits w8 (get_or b i 0)) (a : Asks) (l at : ℕ) {head : Head} (opened : answered head ≡ viewed (header b (geometries a) l at)) where
+  pub header_within : (at + 5 ≤ head.next.0) × (head.next.0 ≤ length b)
+  header_within =
+      let (o, read) = opened_head b known (geometries a) l at head opened in
+      let (g, (f, d)) = header_from b (bytes_known b known) (geometries a) l at (o.h, head.next.0) read in
+      let s = headed_some a l o.h g in
+      let d₀ = ap length d ∙ length-append (headed o.h) (drop head.next.0 b) in
+      let d₁ = length-drop at b in
+      let d₂ = length-drop head.next.0 b in
+      (omega arith, omega arith)
+
+  pub kind_opened : (1 ≤ kind_number head.kind) × (kind_number head.kind ≤ 7)
+  kind_opened =
+      let o = opens b known (geometries a) l at opened in
+      let k = kind_range o.h.code (said o.h) o.holds.says in
+      let e : kind_number o.h.kind ≡ kind_number head.kind = ap (λ (x : Head). kind_number x.kind) o.heads.same in
+      (omega arith, omega arith)
+
+-- ---- room
+
 -- only a geometry of any kind has full geometries for children
 shallow : (q : Option Kind) (l : ℕ) (k : Kind) → EnoughFor q l 19 → asked q k ≡ true → 4 ≤ kind_number k → l ≤ 16
 shallow none l k e i four = e.0
 shallow (some j) l k e i four = let z = eqb-true (kind_number k) (kind_number j) i in absurd (omega arith)
 
-no_ring : (h : Header) (y : Asks) → inside h ≡ geometries y → h.kind ≡ Polygon → ⊥
+-- a polygon's children are rings of its order and dimension
+pub inside_rings : (h : Header) (o : Endianness) (d : Dimension) → h.kind ≡ Polygon → h.order ≡ o → h.dimension ≡ d → inside h ≡ rings o d
 unfolding inside
+inside_rings h o d k e f = rw (ap (λ (x : Kind). same_kind x Polygon) k, e, f)
+
+no_ring : (h : Header) (y : Asks) → inside h ≡ geometries y → h.kind ≡ Polygon → ⊥
 no_ring h y e i =
-    let f : rings h.order h.dimension ≡ geometries y = rw (ap (λ (x : Kind). same_kind x Polygon) i) at e in
+    let f : rings h.order h.dimension ≡ geometries y = sym (inside_rings h h.order h.dimension i refl refl) ∙ e in
     let z : ◌≡◌ {A = ℕ} 0 1 = cc in
     omega arith
 

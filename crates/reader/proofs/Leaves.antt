@@ -1,6 +1,6 @@
 -- A LineString, ring or Point that was read: its one row. Assumes nothing.
-use Prim.Native.Nat.{ℕ, suc, ◌+◌, ◌*◌, ◌-◌, ◌≤◌, ◌<◌}
-use native.Mathlib.Nat.{mul-one}
+use Prim.Native.Nat.{ℕ, suc, ◌+◌, ◌*◌, ◌-◌, ◌^◌, ◌≤◌, ◌<◌}
+use native.Mathlib.Nat.{mul-one, add-zero}
 use native.Mathlib.Omega.{arith}
 use mathlib.Core.Path.{◌≡◌, refl, sym, ap, subst, ◌∙◌}
 use mathlib.Core.Bool.{Bool, true, false, ◌&&◌, cond}
@@ -9,6 +9,7 @@ use lib.ListN.{length, take, drop, length-append, length-drop}
 use lib.Seq.{length-take-le, take-take}
 use lib.Dec.{leb}
 use borrow.Author.Tests.{leb-true, leb-false}
+use Rattle.meaning.specs.declared.Endianness.{Endianness}
 use Rattle.meaning.specs.declared.Dimension.{Dimension}
 use Rattle.meaning.specs.declared.Dimension.TheVariants.{Xy, Xyz, Xym, Xyzm}
 use Rattle.meaning.specs.declared.Kind.{Kind}
@@ -16,9 +17,9 @@ use Rattle.meaning.specs.declared.Kind.TheVariants.{Point}
 use Rattle.meaning.specs.declared.RowFields.{RowFields}
 use Rattle.meaning.specs.Number.{Bytes, number_at}
 use Rattle.meaning.specs.Code.{same_kind, size}
-use Rattle.meaning.specs.Grammar.{Header, Ordinates, Forest, empty, first, every, holds_coordinates, front, header_bytes, srid_bytes, count_bytes, ordinate_bytes, bytes, count}
+use Rattle.meaning.specs.Grammar.{Header, Ordinates, Forest, empty, first, every, holds_coordinates, front, header_bytes, srid_bytes, count_bytes, ordinate_bytes, bytes, count, rings, ring_header}
 use Rattle.meaning.specs.Answer.{Answer, refused, answered}
-use Rattle.meaning.specs.Reading.{pieces, coordinates_in, num, forest}
+use Rattle.meaning.specs.Reading.{pieces, coordinates_in, num, header, forest}
 use Rattle.meaning.specs.Table.{offset, row_of, rows, rows_in, RowFits}
 use Rattle.meaning.proofs.Codes.{ne_same_kind, same_kind-true, same_kind-false}
 use Rattle.meaning.proofs.Lists.{each_take, each_drop}
@@ -26,7 +27,7 @@ use Rattle.meaning.proofs.Headers.{headed}
 use Rattle.meaning.proofs.Coordinates.{count_read, sized_read, length_ordinate_bytes}
 use Rattle.meaning.proofs.Bodies.{count_wire}
 use Rattle.meaning.proofs.Sizes.{count_size}
-use Rattle.meaning.proofs.Siblings.{body_of}
+use Rattle.meaning.proofs.Siblings.{body_of, one_read_deep}
 use Rattle.meaning.proofs.Steps.{span_good, span_past, num_good, num_past, run_good, run_past}
 use Rattle.fields.proofs.Rows.{fit_a, fit_b}
 use Rattle.reader.specs.declared.geometry.Head.{Head}
@@ -35,6 +36,30 @@ use Rattle.reader.specs.Body.{all_nan, line_body, point_body, coordinates_body}
 use Rattle.reader.specs.Rows.{Lists, list_rows}
 use Rattle.reader.specs.Walk.{State, row_from, whole}
 use Rattle.reader.proofs.Nans.{nans_are}
+
+pub size_range : (d : Dimension) → (2 ≤ size d) × (size d ≤ 4)
+size_range Xy = omega arith
+size_range Xyz = omega arith
+size_range Xym = omega arith
+size_range Xyzm = omega arith
+
+pub one_at_most : (t : Bool) → cond t 0 1 ≤ 1
+one_at_most true = omega arith
+one_at_most false = omega arith
+
+-- a run of any count is measured in 64 bits
+pub run_fits : (d : Dimension) (n : ℕ) → n < 2 ^ 32 → 8 * size d * n < 2 ^ 64
+run_fits Xy n h = omega arith
+run_fits Xyz n h = omega arith
+run_fits Xym n h = omega arith
+run_fits Xyzm n h = omega arith
+
+-- what the count is worth in bytes bounds it
+pub count_bound : (d : Dimension) (n m : ℕ) → 8 * size d * n ≤ m → n ≤ m
+count_bound Xy n m h = omega arith
+count_bound Xyz n m h = omega arith
+count_bound Xym n m h = omega arith
+count_bound Xyzm n m h = omega arith
 
 pub front_headed : (h : Header) (n : ℕ) → length (front h n) ≡ length (headed h) + cond (same_kind h.kind Point) 0 4
 front_headed h n =
@@ -137,13 +162,6 @@ module _ (b : List ℕ) (all : Bytes b) {S : Type 0} (list : Lists S) (s : S) (h
 
 -- ---- in the code's terms
 
--- what the count is worth in bytes bounds it
-count_bound : (d : Dimension) (n k : ℕ) → 8 * size d * n ≤ k → n ≤ k
-count_bound Xy n k h = omega arith
-count_bound Xyz n k h = omega arith
-count_bound Xym n k h = omega arith
-count_bound Xyzm n k h = omega arith
-
 -- a row that ends within a readable buffer fits its words
 pub row_fits : (head : Head) (at l body end n s : ℕ) → l < 64 → at ≤ 1048575 → body ≤ 1048575 → end ≤ 1048575 → n ≤ 1048575 → s ≤ 1048575
     → RowFits (row_from head (offset at) l (offset body) (offset end) n s)
@@ -212,17 +230,7 @@ line_sizes b hd =
 pub point_sizes : (b : List ℕ) (hd : Head) → Sizes b hd (point_body b hd)
 point_sizes b hd =
     point_cases b hd (Sizes b hd) (λ lt. tt)
-    (λ le. let two = two_at_least hd.dimension in let one = one_at_most (all_nan b hd.order (size hd.dimension) hd.next.0) in (omega arith, omega arith, omega arith, omega arith, omega arith))
-  where
-    two_at_least : (d : Dimension) → 2 ≤ size d
-    two_at_least Xy = omega arith
-    two_at_least Xyz = omega arith
-    two_at_least Xym = omega arith
-    two_at_least Xyzm = omega arith
-
-    one_at_most : (t : Bool) → cond t 0 1 ≤ 1
-    one_at_most true = omega arith
-    one_at_most false = omega arith
+    (λ le. let few = size_range hd.dimension in let one = one_at_most (all_nan b hd.order (size hd.dimension) hd.next.0) in (omega arith, omega arith, omega arith, omega arith, omega arith))
 
 pub leaf_sizes : (b : List ℕ) (hd : Head) → Sizes b hd (coordinates_body b hd)
 leaf_sizes b hd = go (same_kind hd.kind Point)
@@ -278,3 +286,17 @@ module _ (b : List ℕ) (all : Bytes b) {S : Type 0} (list : Lists S) (s : S) (r
       go : (c : Bool) → same_kind head.kind Point ≡ c → closing head (cond c (point_body b head) (line_body b head)) ≡ all_of_it head
       go true e = point_whole (same_kind-true head.kind Point e)
       go false e = line_whole k (same_kind-false head.kind Point e)
+
+-- a ring opens with no bytes of its own,
+pub ring_heads : {o : Endianness} {d : Dimension} {at : ℕ} {head : Head} → head ≡ head_of (ring_header o d) at → Heads (ring_header o d) at head
+ring_heads {o} {d} {at} e = record { same = ap (λ (x : Head). head_of (ring_header o d) x.next.0) e ∙ sym e; behind = ap (λ (x : Head). x.next.0) e ∙ sym (add-zero at) }
+
+-- and is all body
+pub ring_read : (b : List ℕ) → Bytes b → {S : Type 0} (list : Lists S) (s : S) (r l at : ℕ) (o : Endianness) (d : Dimension)
+    → whole list r l at s (body_of b 19 (ring_header o d) l at) ≡ whole list r l at s (forest b 19 1 (rings o d) l at)
+unfolding header
+ring_read b all list s r l at o d = ap (whole list r l at s) (sym (one_read_deep b all (rings o d) l at (omega arith)))
+
+pub ring_whole : (b : List ℕ) → Bytes b → {S : Type 0} (list : Lists S) (s : S) (r l : ℕ) {o : Endianness} {d : Dimension} {at : ℕ} {head : Head} → head ≡ head_of (ring_header o d) at
+    → whole list r l at s (body_of b 19 (ring_header o d) l head.next.0) ≡ whole list r l at s (forest b 19 1 (rings o d) l at)
+ring_whole b all list s r l {o} {d} {at} e = ap (λ (x : Head). whole list r l at s (body_of b 19 (ring_header o d) l x.next.0)) e ∙ ring_read b all list s r l at o d

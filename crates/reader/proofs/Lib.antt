@@ -4,7 +4,7 @@ mod Headers
 mod Listing
 mod Walks
 mod Nans
-mod Leaves
+pub mod Leaves
 mod Closings
 mod Geometries
 pub mod OneResult

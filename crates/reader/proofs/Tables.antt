@@ -69,6 +69,11 @@ filled_words t f h =
     let n = length_rows f 0 0 in
     put_fits t 0 (rows 0 0 f) (omega arith) ∙ ap (λ (k : ℕ). words (rows 0 0 f) ++ drop (2 * k) t) (zero-add (length (rows 0 0 f)) ∙ n)
 
+-- a part of no words is lent, and comes back
+pub nothing_lent : (ys t : List ℕ) → length ys ≡ 0 → ys ++ t ≡ t
+nothing_lent [] t e = refl
+nothing_lent (y ∷ ys) t e = absurd (omega arith)
+
 pub reading_long : (b : List ℕ) → 1048575 < length b → reading b ≡ refused 1 0
 unfolding reading
 reading_long b h = rw (lt-leb (length b) 1048575 h)

@@ -3,13 +3,14 @@ use Prim.Native.Nat.{ℕ, suc, ◌+◌, ◌-◌, ◌≤◌, ◌<◌}
 use native.Mathlib.Omega.{arith}
 use mathlib.Core.Path.{◌≡◌, refl, sym, ap, subst, ◌∙◌}
 use mathlib.Core.List.{List, ◌++◌}
-use lib.ListN.{length}
+use lib.ListN.{length, drop, length-append, length-drop}
 use Rattle.meaning.specs.Number.{Bytes}
 use Rattle.meaning.specs.Grammar.{Forest, bytes, Place}
 use Rattle.meaning.specs.Answer.{Answer, refused, answered}
 use Rattle.meaning.specs.Reading.{after, give, forest}
 use Rattle.meaning.specs.Table.{rows_in, rows}
 use Rattle.meaning.proofs.Exact.{forest_from}
+use Rattle.meaning.proofs.Sizes.{rows_bytes}
 use Rattle.meaning.proofs.Siblings.{graft, rows_in_graft, rows_graft, length_rows, more_read}
 use Rattle.reader.specs.Rows.{Lists, AnyOrder, list_rows}
 use Rattle.reader.specs.Walk.{State, whole}
@@ -79,14 +80,19 @@ module _ {S : Type 0} (list : Lists S) (any_order : AnyOrder list) (l : ℕ) whe
           let m : n - i ≡ 0 = omega arith in
           sym (ap (λ (j : ℕ). whole list q l p s (siblings_at j p)) m ∙ state _ _ _ _ _ _ refl (omega arith) refl)
 
-    -- a walk goes onward
-    pub onward : (n q p : ℕ) (s : S) (st : State S) → answered st ≡ whole list q l p s (siblings_at n p) → p ≤ st.0
-    onward n q p s st h = go (siblings_at n p) refl h
+    -- a walk goes onward within the buffer, and has no more rows than bytes
+    pub onward : (n q p : ℕ) (s : S) (st : State S) → answered st ≡ whole list q l p s (siblings_at n p) → q ≤ p → (p ≤ st.0) × (st.1 ≤ st.0) × (p ≤ length b → st.0 ≤ length b)
+    onward n q p s st h le = go (siblings_at n p) refl h
       where
-        go : (A : Answer (Forest × ℕ)) → siblings_at n p ≡ A → answered st ≡ whole list q l p s A → p ≤ st.0
+        go : (A : Answer (Forest × ℕ)) → siblings_at n p ≡ A → answered st ≡ whole list q l p s A → (p ≤ st.0) × (st.1 ≤ st.0) × (p ≤ length b → st.0 ≤ length b)
         go (refused k m) e f = let z : ◌≡◌ {A = ℕ} 0 1 = cc in absurd (omega arith)
         go (answered x) e f =
             let i : st ≡ (x.1, q + rows_in x.0, list_rows list s q (rows p l x.0)) = cc in
             let i₀ : st.0 ≡ x.1 = ap (λ (u : State S). u.0) i in
+            let i₁ : st.1 ≡ q + rows_in x.0 = ap (λ (u : State S). u.1) i in
             let (w, sib, (en, dr)) = forest_from b all 19 n place l p x e in
-            omega arith
+            let r = rows_bytes x.0 in
+            let d = ap length dr ∙ length-append (bytes x.0) (drop x.1 b) in
+            let d₁ = length-drop p b in
+            let d₂ = length-drop x.1 b in
+            (omega arith, omega arith, λ k. omega arith)

@@ -15,7 +15,8 @@ pub struct Body {
     pub end: Offset,
 }
 
-// The body of a Point, a LineString or a ring.
+// The body of a Point, a LineString or a ring. Inlined, so that the loop over rings, where the kind is known, has no test of it.
+#[inline(always)]
 pub fn coordinates(buf: &[u8], head: Head) -> Result<Body, Refusal>
     ensures { body_meant result ≡ coordinates_body buf.now head }
 {

@@ -5,10 +5,10 @@ ghost use Rattle.meaning.specs.Reading.{header, forest};
 ghost use Rattle.reader.specs.Asks.{asks_of, place_meant, head_meant, viewed, opened};
 ghost use Rattle.reader.specs.Walk.{walked, whole, Room};
 
-use crate::body::{Body, coordinates};
+use crate::body::Body;
 use crate::geometry_collection::collection;
 use crate::linearring::ring;
-use crate::opened::{Opened, close};
+use crate::opened::{Opened, close, leaf};
 use crate::place::{Parent, Place, Siblings, child_fits, inside, srid_fits, too_deep};
 use crate::rows::Rows;
 use crate::spot::Spot;
@@ -27,6 +27,8 @@ pub struct Head {
     pub next: Offset,
 }
 
+// Inlined, so that the walk has the head in registers.
+#[inline(always)]
 pub fn header(buf: &[u8], at: Offset, level: usize, parent: Parent) -> Result<Head, Refusal>
     ensures { head_meant result ≡ viewed (header buf.now (geometries (asks_of parent)) level at.0) }
 {
@@ -81,6 +83,7 @@ fn opened(
 
 // What opens a geometry or ring at a place.
 #[tactic(auto, unfolding(meaning::specs::Reading::header))]
+#[inline(always)]
 fn open(buf: &[u8], at: Offset, place: Place) -> Result<Head, Refusal>
     ensures { head_meant result ≡ viewed (header buf.now (place_meant place.siblings) place.level at.0) }
 {
@@ -107,10 +110,7 @@ pub fn geometry<R: Rows>(
         level: place.level,
     };
     match head.kind {
-        Kind::Ring | Kind::Point | Kind::LineString => {
-            let body = coordinates(buf, head)?;
-            Ok(close(rows, opened, body, Row(spot.row.0 + 1)))
-        }
+        Kind::Ring | Kind::Point | Kind::LineString => leaf(buf, rows, opened),
         _ => {
             let count = read_u32(buf, head.next, head.order)? as usize;
             let start = Offset(head.next.0 + 4);

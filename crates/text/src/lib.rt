@@ -1,5 +1,6 @@
-// Lines of text taken apart, and a program's input answered line by line.
+// Lines of text taken apart and put together, and a program's input answered line by line.
 #![tactic(auto)]
 
 pub mod answers;
+pub mod put;
 pub mod spelt;

@@ -3,8 +3,6 @@ ghost use Rattle.std.specs.Prelude.{◌≡◌, ◌^◌, ◌<◌, ◌≤◌, leng
 ghost use Rattle.std.specs.Str.Parse.{IsNumeral, digits_value};
 ghost use Rattle.text.specs.Spelt.{digit_of};
 
-use std::str;
-
 // A hex digit. The bound is there for callers that compute with the value.
 pub fn digit_of(b: u8) -> Option<u32>
     ensures value { result ≡ digit_of b }
@@ -13,17 +11,20 @@ pub fn digit_of(b: u8) -> Option<u32>
     char::from(b).to_digit(16)
 }
 
-// Decimal digits, and nothing else; `parse` would take a `+` before them.
+// Decimal digits, and nothing else. It ends at the first that is none, or that the number has no room for: `parse` would take a `+` before
+// them, and a text, which is looked at to its end.
 pub fn number_of(s: &[u8]) -> Option<usize>
     ensures { SomeIff result (IsNumeral 10 s.now × (digits_value 10 s.now < 2 ^ 64)) (digits_value 10 s.now) }
 {
-    if s.first() == Some(&b'+') {
+    if s.is_empty() {
         return None;
     }
-    let Ok(text) = str::from_utf8(s) else {
-        return None;
-    };
-    text.parse().ok()
+    let mut number = 0usize;
+    for &b in s {
+        let digit = char::from(b).to_digit(10)?;
+        number = number.checked_mul(10)?.checked_add(digit as usize)?;
+    }
+    Some(number)
 }
 
 // Hex digits in pairs, `-` for none; after them, if there is a `+`, how many zeros follow. The bytes are put at the start of `out`, which

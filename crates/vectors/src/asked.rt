@@ -1,5 +1,6 @@
 // A line of the input that asks a question of a buffer and a table, which it spells: a letter, and fields as docs/VECTORS.md lists them.
 ghost use Rattle.std.specs.Prelude.{◌≤◌, length, IfOk};
+ghost use Rattle.vectors.specs.Room.{PartFits};
 
 use crate::error::QuestionError;
 use crate::question::{Question, question_of};
@@ -22,6 +23,7 @@ pub struct Asked {
 pub fn asked_of(line: &[u8], buf: &mut [u8], table: &mut [u64]) -> Result<Asked, QuestionError>
     ensures length { IfOk result (λ a. a.length ≤ length buf.old) }
     ensures words { IfOk result (λ a. a.words ≤ length table.old) }
+    ensures part { IfOk result (λ a. PartFits a.question a.length) }
 {
     let [letter, b' ', rest @ ..] = line else {
         return Err(QuestionError::NoLetter);

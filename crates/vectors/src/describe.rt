@@ -1,19 +1,29 @@
 // The line of output for a line of input.
+ghost use Rattle.std.specs.Prelude.{◌+◌, ◌≤◌, length};
+ghost use Rattle.arrayvec.specs.ArrayVec.{array_vec_len};
+
 use crate::answer::answer;
 use crate::asked::asked_of;
 use crate::error::QuestionError;
 use crate::reading::describe_reading;
-use crate::record::{MOST_WORDS, record_of};
-use std::fmt;
+use crate::record::record_of;
+use arrayvec::ArrayVec;
+use std::fmt::Display;
+use text::put::{put, put_number, put_shown};
 
-// What comes of the record or the question, or what is wrong with the line, where `number` is the line's own.
-pub fn describe<W: fmt::Write>(
+// What comes of the record or the question, or what is wrong with the line, where `number` is the line's own. It takes the place of what
+// `out` holds, and fits. The longest are a table of 600 words, each with 17 bytes, two numbers of at most 20 digits, and 22 bytes.
+pub fn describe<const ROOM: usize>(
     line: &[u8],
     number: usize,
     buf: &mut [u8],
-    table: &mut [u64; MOST_WORDS],
-    out: &mut W,
-) -> fmt::Result {
+    table: &mut [u64],
+    out: &mut ArrayVec<u8, ROOM>,
+)
+    requires { (600 ≤ length table.old) × (10262 ≤ ROOM) }
+    ensures { array_vec_len out.new ≤ 10262 }
+{
+    out.clear();
     if line.first() == Some(&b'R') {
         describe_record(line, number, buf, table, out)
     } else {
@@ -21,29 +31,32 @@ pub fn describe<W: fmt::Write>(
     }
 }
 
-fn describe_record<W: fmt::Write>(
+fn describe_record<const ROOM: usize>(
     line: &[u8],
     number: usize,
     buf: &mut [u8],
-    table: &mut [u64; MOST_WORDS],
-    out: &mut W,
-) -> fmt::Result {
+    table: &mut [u64],
+    out: &mut ArrayVec<u8, ROOM>,
+)
+    requires { (600 ≤ length table.old) × (array_vec_len out.old + 10262 ≤ ROOM) }
+    ensures { array_vec_len out.new ≤ array_vec_len out.old + 10262 }
+{
     match record_of(line, buf) {
         Ok(record) => describe_reading(&buf[..record.length], &mut table[..record.words], out),
-        Err(error) => writeln!(
-            out,
-            "line {number}: {error}; expected R WORDS HEX, such as R 2 0103000000+4"
-        ),
+        Err(error) => put_wrong(out, number, error, "R WORDS HEX, such as R 2 0103000000+4"),
     }
 }
 
-fn describe_question<W: fmt::Write>(
+fn describe_question<const ROOM: usize>(
     line: &[u8],
     number: usize,
     buf: &mut [u8],
-    table: &mut [u64; MOST_WORDS],
-    out: &mut W,
-) -> fmt::Result {
+    table: &mut [u64],
+    out: &mut ArrayVec<u8, ROOM>,
+)
+    requires { (600 ≤ length table.old) × (array_vec_len out.old + 10262 ≤ ROOM) }
+    ensures { array_vec_len out.new ≤ array_vec_len out.old + 10262 }
+{
     match asked_of(line, buf, table) {
         Ok(asked) => answer(
             asked.question,
@@ -52,16 +65,37 @@ fn describe_question<W: fmt::Write>(
             out,
         ),
         // the reading's answer, as there is no table to ask
-        Err(QuestionError::NotRead(refusal)) => writeln!(out, "{refusal}"),
-        Err(error) => {
-            let form = form_of(line);
-            writeln!(out, "line {number}: {error}; expected {form}")
+        Err(QuestionError::NotRead(refusal)) => {
+            put_shown::<49, _, _>(out, &refusal);
+            put(out, b"\n");
         }
+        Err(error) => put_wrong(out, number, error, form_of(line)),
     }
 }
 
+// What is wrong with a line, and what it should look like.
+fn put_wrong<const ROOM: usize, E: Display + Drop>(
+    out: &mut ArrayVec<u8, ROOM>,
+    number: usize,
+    error: E,
+    form: &str,
+)
+    requires { (length form.now ≤ 80) × (array_vec_len out.old + 200 ≤ ROOM) }
+    ensures { array_vec_len out.new ≤ array_vec_len out.old + 200 }
+{
+    put(out, b"line ");
+    put_number(out, number);
+    put(out, b": ");
+    put_shown::<80, _, _>(out, &error);
+    put(out, b"; expected ");
+    put(out, form.as_bytes());
+    put(out, b"\n");
+}
+
 // What a line of the same letter looks like.
-fn form_of(line: &[u8]) -> &'static str {
+fn form_of(line: &[u8]) -> &'static str
+    ensures { length result.now ≤ 80 }
+{
     match line {
         [b'C', ..] => "C TABLE HEX, such as C = 0103000000+4",
         [b'O', ..] => "O TABLE ROW INDEX AXIS HEX, such as O = 0 0 1 0101000000+16",

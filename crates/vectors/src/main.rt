@@ -10,17 +10,13 @@ mod reading;
 mod record;
 mod table;
 
-use arrayvec::ArrayString;
-use asked::MOST_FOR_PART;
+use arrayvec::ArrayVec;
 use describe::describe;
 use record::{MOST_BYTES, MOST_WORDS};
 use text::answers::answer_lines;
 
-// Room for the longest answer: a table takes 17 bytes for each word, two numbers of at most 20 digits, and 22 bytes. The longest of the
-// others is a coordinate part, of two bytes for each of its own, and 6.
-const ROOM: usize = 17 * MOST_WORDS + 2 * 20 + 22;
-
-const _: () = prove!(2 * MOST_FOR_PART + 6 <= ROOM);
+// Room for the longest answer.
+const ROOM: usize = 10_262;
 
 // Room for the input, of which the last byte shows that it is too long.
 const INPUT: usize = 1_048_576;
@@ -36,7 +32,7 @@ fn main() {
 fn run(input: &mut [u8; INPUT], bytes: &mut [u8; MOST_BYTES], table: &mut [u64; MOST_WORDS]) {
     answer_lines(
         input,
-        |line: &[u8], number: usize, answer: &mut ArrayString<ROOM>| {
+        |line: &[u8], number: usize, answer: &mut ArrayVec<u8, ROOM>| {
             describe(line, number, bytes, table, answer)
         },
     );

@@ -3,13 +3,13 @@ use Rattle.std.proofs.Common.{◌+◌, sym, ap, subst, ◌∙◌, arith}
 use Rattle.std.proofs.lemmas.Result.{err_from_is_err_and}
 use Rattle.meaning.specs.Grammar.{Place, holds_coordinates}
 use Rattle.reader.specs.declared.geometry.Head.{Head}
+use Rattle.reader.specs.declared.place.Siblings.{Siblings}
 use Rattle.reader.specs.Asks.{place_meant}
 use Rattle.reader.specs.Walk.{State, Room}
 use Rattle.reader.proofs.Known.{bytes_known}
 use Rattle.reader.proofs.There.{num_within}
 use Rattle.reader.proofs.Walks.{turn, turned_away, none_left, onward}
 use Rattle.reader.proofs.Closings.{count_refused, children_refused, closed_whole, closable}
-use Rattle.reader.proofs.Leaves.{Sizes, leaf_sizes, leaf_fits, closing, leaf_whole}
 use Rattle.reader.proofs.Geometries.{refused_head, by_body, room_level, room_inside, opens, leaves, parents}
 use Rattle.reader.proofs.+geometry_collection.Goals as goal
 
@@ -21,46 +21,17 @@ geometry::geometry-returns-in_err-head g t c =
     rw (p.1, p.2) (refused_head a.buf.now c.type_inv.buf (place_meant a.place.siblings) a.place.level a.spot.at.0 c.requires.1 g.R.Rows.listed a.rows.now a.spot.row.0 _ _ c.in_err-head.ensures)
 
 -- a Point, a LineString or a ring
-pub geometry::geometry-returns-in_err-body-in-Ring :
-    goal.geometry::geometry-returns-in_err-body-in-Ring
-geometry::geometry-returns-in_err-body-in-Ring g t c =
-    let a = c.args in
-    let hd = c.in_ok-head.head in
-    let k = leaves hd.kind c.in-Ring.is in
-    let p = err_from_is_err_and c.from_residual-in_err-body-in-Ring.result c.from_residual-in_err-body-in-Ring.ensures.1 in
-    rw (p.1, p.2)
-    (by_body a.buf.now c.type_inv.buf (place_meant a.place.siblings) a.place.level a.spot.at.0 c.requires.1 g.R.Rows.listed a.rows.now a.spot.row.0 c.in_ok-head.ensures
-    (λ h heads.
-    ap (closing a.buf.now (bytes_known a.buf.now c.type_inv.buf) g.R.Rows.listed a.rows.now a.spot.row.0 a.place.level a.spot.at.0 hd h heads hd) c.in_err-body-in-Ring.ensures
-    ∙ leaf_whole a.buf.now (bytes_known a.buf.now c.type_inv.buf) g.R.Rows.listed a.rows.now a.spot.row.0 a.place.level a.spot.at.0 hd h heads k))
-
-pub geometry::geometry-overflow_add-spot : goal.geometry::geometry-overflow_add-spot
-geometry::geometry-overflow_add-spot g t c =
+pub geometry::geometry-leaf-requires : goal.geometry::geometry-leaf-requires
+geometry::geometry-leaf-requires g t c =
     let a = c.args in
     let hd = c.in_ok-head.head in
     let o = opens a.buf.now c.type_inv.buf (place_meant a.place.siblings) a.place.level a.spot.at.0 c.in_ok-head.ensures in
-    let z = subst (Sizes a.buf.now hd) (sym c.in_ok-body-in-Ring.ensures) (leaf_sizes a.buf.now hd) in
-    omega (arith, z.1, z.3, o.onward, a.spot.rows)
+    (c.requires.0, o.onward, room_level (place_meant a.place.siblings) a.place.level c.requires.1, leaves hd.kind c.in-Ring.is)
 
-pub geometry::geometry-close-requires : goal.geometry::geometry-close-requires
-geometry::geometry-close-requires g t c =
+pub geometry::geometry-returns-in-Ring : goal.geometry::geometry-returns-in-Ring
+geometry::geometry-returns-in-Ring g t c =
     let a = c.args in
-    let hd = c.in_ok-head.head in
-    let o = opens a.buf.now c.type_inv.buf (place_meant a.place.siblings) a.place.level a.spot.at.0 c.in_ok-head.ensures in
-    let z = subst (Sizes a.buf.now hd) (sym c.in_ok-body-in-Ring.ensures) (leaf_sizes a.buf.now hd) in
-    leaf_fits a.buf.now hd a.spot.row.0 a.place.level a.spot.at.0 _ _ _ z a.spot.rows o.onward c.requires.0 (room_level (place_meant a.place.siblings) a.place.level c.requires.1)
-
-pub geometry::geometry-returns-in_ok-body-in-Ring :
-    goal.geometry::geometry-returns-in_ok-body-in-Ring
-geometry::geometry-returns-in_ok-body-in-Ring g t c =
-    let a = c.args in
-    let hd = c.in_ok-head.head in
-    let k = leaves hd.kind c.in-Ring.is in
-    rw (c.close.ensures.0, c.close.ensures.1, c.close.ensures.2)
-    (by_body a.buf.now c.type_inv.buf (place_meant a.place.siblings) a.place.level a.spot.at.0 c.requires.1 g.R.Rows.listed a.rows.now a.spot.row.0 c.in_ok-head.ensures
-    (λ h heads.
-    ap (closing a.buf.now (bytes_known a.buf.now c.type_inv.buf) g.R.Rows.listed a.rows.now a.spot.row.0 a.place.level a.spot.at.0 hd h heads hd) c.in_ok-body-in-Ring.ensures
-    ∙ leaf_whole a.buf.now (bytes_known a.buf.now c.type_inv.buf) g.R.Rows.listed a.rows.now a.spot.row.0 a.place.level a.spot.at.0 hd h heads k))
+    by_body a.buf.now c.type_inv.buf (place_meant a.place.siblings) a.place.level a.spot.at.0 c.requires.1 g.R.Rows.listed a.rows.now a.spot.row.0 c.in_ok-head.ensures c.leaf.ensures
 
 -- a parent with no count
 pub geometry::geometry-returns-in_err-count-in_default :
@@ -119,9 +90,9 @@ geometry::geometry-returns-in_err-behind-in_default g t c =
     _ (c.inside.ensures h heads.same) _ _ c.in_err-behind-in_default.ensures))
 
 -- its own row
-pub geometry::geometry-close-requires-in_default :
-    goal.geometry::geometry-close-requires-in_default
-geometry::geometry-close-requires-in_default g t c =
+pub geometry::geometry-close-requires :
+    goal.geometry::geometry-close-requires
+geometry::geometry-close-requires g t c =
     let a = c.args in
     let hd = c.in_ok-head.head in
     let o = opens a.buf.now c.type_inv.buf (place_meant a.place.siblings) a.place.level a.spot.at.0 c.in_ok-head.ensures in
@@ -141,13 +112,24 @@ geometry::geometry-returns-in_ok-behind-in_default g t c =
     let hd = c.in_ok-head.head in
     let k = parents hd.kind c.in_default.not-Ring c.in_default.not-Point c.in_default.not-LineString in
     let e = c.in_ok-behind-in_default.behind in
-    rw (c.close-in_default.ensures.0, c.close-in_default.ensures.1, c.close-in_default.ensures.2)
+    rw (c.close.ensures.0, c.close.ensures.1, c.close.ensures.2)
     (by_body a.buf.now c.type_inv.buf (place_meant a.place.siblings) a.place.level a.spot.at.0 c.requires.1 g.R.Rows.listed a.rows.now a.spot.row.0 c.in_ok-head.ensures
     (λ h heads.
     closed_whole a.buf.now (bytes_known a.buf.now c.type_inv.buf) g.R.Rows.listed a.rows.now a.spot.row.0 a.place.level a.spot.at.0 hd h heads k _ c.in_ok-count-in_default.ensures
     _ (c.inside.ensures h heads.same) (e.at.0, e.row.0, c.collection.new.rows) c.in_ok-behind-in_default.ensures))
 
--- siblings
+-- rings
+pub geometry_collection::collection-rings-requires :
+    goal.geometry_collection::collection-rings-requires
+geometry_collection::collection-rings-requires g t c =
+    let a = c.args in
+    (c.requires.0, subst (λ (x : Siblings). Room (place_meant x) a.place.level) c.in-Rings.is c.requires.1)
+
+pub geometry_collection::collection-returns-in-Rings :
+    goal.geometry_collection::collection-returns-in-Rings
+geometry_collection::collection-returns-in-Rings g t c = rw c.in-Rings.is c.rings.ensures
+
+-- full geometries
 pub geometry_collection::collection-returns-in_err-spot :
     goal.geometry_collection::collection-returns-in_err-spot
 geometry_collection::collection-returns-in_err-spot g t c =
@@ -167,9 +149,9 @@ geometry_collection::collection-loop-preserved g t c =
     let b = bytes_known a.buf.now c.type_inv.buf in
     let e = c.in_ok-spot.spot in
     let st : State g.row.R.Denot = (e.at.0, e.row.0, c.geometry.new.rows) in
-    let further = onward g.R.Rows.listed g.R.Rows.any_order a.place.level a.buf.now b (place_meant a.place.siblings) 1 l.spot.row.0 l.spot.at.0 l.rows st c.in_ok-spot.ensures in
+    let further = onward g.R.Rows.listed g.R.Rows.any_order a.place.level a.buf.now b (place_meant a.place.siblings) 1 l.spot.row.0 l.spot.at.0 l.rows st c.in_ok-spot.ensures l.spot.rows in
     record {
-      onward = omega (arith, further, l.invariant.onward);
+      onward = omega (arith, further.0, l.invariant.onward);
       rest =
           sym (turn g.R.Rows.listed g.R.Rows.any_order a.place.level a.buf.now b (place_meant a.place.siblings) a.count l.counter l.spot.row.0 l.spot.at.0 l.rows c.loop-test.true st c.in_ok-spot.ensures)
           ∙ l.invariant.rest;
