@@ -2,8 +2,6 @@
 ghost use Rattle.std.specs.Prelude.{◌≡◌};
 ghost use Rattle.codes.specs.Line.{code_of};
 
-use std::error::Error;
-use std::fmt;
 use text::spelt::digit_of;
 
 // The first thing that is wrong with a line.
@@ -15,18 +13,6 @@ pub enum SpellingError {
     // which character, counted from 1, is the first that is no hex digit
     NotHex(usize),
 }
-
-impl fmt::Display for SpellingError {
-    fn fmt<W: fmt::Write>(&self, f: &mut fmt::Formatter<W>) -> fmt::Result {
-        match self {
-            SpellingError::Empty => write!(f, "empty"),
-            SpellingError::TooLong(n) => write!(f, "{n} characters"),
-            SpellingError::NotHex(i) => write!(f, "character {i} is no hex digit"),
-        }
-    }
-}
-
-impl Error for SpellingError {}
 
 pub fn code_of(line: &[u8]) -> Result<u32, SpellingError>
     ensures { result ≡ code_of line.now }

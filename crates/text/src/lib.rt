@@ -3,4 +3,5 @@
 
 pub mod answers;
 pub mod put;
+pub mod refusal;
 pub mod spelt;

@@ -3,8 +3,7 @@
 ghost use Rattle.std.specs.Prelude.{◌≡◌, ◌+◌, ◌≤◌, ◌++◌, length};
 ghost use Rattle.arrayvec.specs.ArrayVec.{array_vec_len};
 
-use arrayvec::{ArrayString, ArrayVec};
-use std::fmt::{Display, Write};
+use arrayvec::ArrayVec;
 
 pub fn put<const ROOM: usize>(out: &mut ArrayVec<u8, ROOM>, text: &[u8])
     requires { array_vec_len out.old + length text.now ≤ ROOM }
@@ -38,17 +37,4 @@ pub fn put_hex<const W: usize, const ROOM: usize>(out: &mut ArrayVec<u8, ROOM>, 
         rest /= 16;
     }
     put(out, &digits);
-}
-
-// What a value shows. Of more than MOST bytes only the first pieces that fit.
-pub fn put_shown<const MOST: usize, const ROOM: usize, D: Display>(
-    out: &mut ArrayVec<u8, ROOM>,
-    value: &D,
-)
-    requires { array_vec_len out.old + MOST ≤ ROOM }
-    ensures { array_vec_len out.new ≤ array_vec_len out.old + MOST }
-{
-    let mut shown = ArrayString::<MOST>::new();
-    let _ = write!(shown, "{value}");
-    put(out, shown.as_str().as_bytes());
 }

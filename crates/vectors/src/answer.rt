@@ -12,7 +12,8 @@ use questions::coordinate::coordinate;
 use questions::coords::{coords_form, coords_slice};
 use questions::ordinate::ordinate;
 use questions::srid::srid;
-use text::put::{put, put_hex, put_number, put_shown};
+use text::put::{put, put_hex, put_number};
+use text::refusal::put_refusal;
 
 // The longest is a coordinate part, of two bytes for each of its own, and 6.
 pub fn answer<const ROOM: usize>(
@@ -25,7 +26,7 @@ pub fn answer<const ROOM: usize>(
     ensures { array_vec_len out.new ≤ array_vec_len out.old + 10262 }
 {
     if let Err(refusal) = answered(question, buf, table, out) {
-        put_shown::<49, _, _>(out, &refusal);
+        put_refusal(out, refusal);
     }
     put(out, b"\n");
 }

@@ -8,8 +8,8 @@ use crate::error::QuestionError;
 use crate::reading::describe_reading;
 use crate::record::record_of;
 use arrayvec::ArrayVec;
-use std::fmt::Display;
-use text::put::{put, put_number, put_shown};
+use text::put::{put, put_number};
+use text::refusal::put_refusal;
 
 // What comes of the record or the question, or what is wrong with the line, where `number` is the line's own. It takes the place of what
 // `out` holds, and fits. The longest are a table of 600 words, each with 17 bytes, two numbers of at most 20 digits, and 22 bytes.
@@ -43,7 +43,12 @@ fn describe_record<const ROOM: usize>(
 {
     match record_of(line, buf) {
         Ok(record) => describe_reading(&buf[..record.length], &mut table[..record.words], out),
-        Err(error) => put_wrong(out, number, error, "R WORDS HEX, such as R 2 0103000000+4"),
+        Err(error) => put_wrong(
+            out,
+            number,
+            error.text(),
+            "R WORDS HEX, such as R 2 0103000000+4",
+        ),
     }
 }
 
@@ -66,27 +71,27 @@ fn describe_question<const ROOM: usize>(
         ),
         // the reading's answer, as there is no table to ask
         Err(QuestionError::NotRead(refusal)) => {
-            put_shown::<49, _, _>(out, &refusal);
+            put_refusal(out, refusal);
             put(out, b"\n");
         }
-        Err(error) => put_wrong(out, number, error, form_of(line)),
+        Err(error) => put_wrong(out, number, error.text(), form_of(line)),
     }
 }
 
 // What is wrong with a line, and what it should look like.
-fn put_wrong<const ROOM: usize, E: Display + Drop>(
+fn put_wrong<const ROOM: usize>(
     out: &mut ArrayVec<u8, ROOM>,
     number: usize,
-    error: E,
+    error: &str,
     form: &str,
 )
-    requires { (length form.now ≤ 80) × (array_vec_len out.old + 200 ≤ ROOM) }
+    requires { (length error.now ≤ 80) × (length form.now ≤ 80) × (array_vec_len out.old + 200 ≤ ROOM) }
     ensures { array_vec_len out.new ≤ array_vec_len out.old + 200 }
 {
     put(out, b"line ");
     put_number(out, number);
     put(out, b": ");
-    put_shown::<80, _, _>(out, &error);
+    put(out, error.as_bytes());
     put(out, b"; expected ");
     put(out, form.as_bytes());
     put(out, b"\n");

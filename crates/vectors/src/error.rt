@@ -1,6 +1,6 @@
 // What is wrong with a line that asks a question.
-use crate::asked::MOST_FOR_PART;
-use crate::record::{MOST_BYTES, MOST_WORDS};
+ghost use Rattle.std.specs.Prelude.{◌≤◌, length};
+
 use meaning::Refusal;
 use std::error::Error;
 use std::fmt;
@@ -20,28 +20,32 @@ pub enum QuestionError {
     NotRead(Refusal),
 }
 
+impl QuestionError {
+    // The bound is there for callers that have so much room. A refusal has a text of its own.
+    pub fn text(self) -> &'static str
+        ensures { length result.now ≤ 80 }
+    {
+        match self {
+            QuestionError::NoLetter => {
+                "it does not start with one of R, C, O, K, P, F, D, S and a space"
+            }
+            QuestionError::Fields => "it has too few fields, or too many",
+            QuestionError::NoRow => "ROW is no number below 2^64",
+            QuestionError::NoIndex => "INDEX is no number below 2^64",
+            QuestionError::NoAxis => "AXIS is no number below 2^64",
+            QuestionError::NoBytes => "HEX is no bytes in hex, or more than 1048576",
+            QuestionError::LongForPart => "HEX is more than 5000 bytes, too many for P",
+            QuestionError::NoTable => "TABLE is no words of 16 hex digits, or more than 600",
+            QuestionError::NotRead(_) => "HEX is refused",
+        }
+    }
+}
+
 impl fmt::Display for QuestionError {
     fn fmt<W: fmt::Write>(&self, f: &mut fmt::Formatter<W>) -> fmt::Result {
         match self {
-            QuestionError::NoLetter => write!(
-                f,
-                "it does not start with one of R, C, O, K, P, F, D, S and a space"
-            ),
-            QuestionError::Fields => write!(f, "it has too few fields, or too many"),
-            QuestionError::NoRow => write!(f, "ROW is no number below 2^64"),
-            QuestionError::NoIndex => write!(f, "INDEX is no number below 2^64"),
-            QuestionError::NoAxis => write!(f, "AXIS is no number below 2^64"),
-            QuestionError::NoBytes => {
-                write!(f, "HEX is no bytes in hex, or more than {MOST_BYTES}")
-            }
-            QuestionError::LongForPart => {
-                write!(f, "HEX is more than {MOST_FOR_PART} bytes, too many for P")
-            }
-            QuestionError::NoTable => write!(
-                f,
-                "TABLE is no words of 16 hex digits, or more than {MOST_WORDS}"
-            ),
             QuestionError::NotRead(refusal) => write!(f, "{refusal}"),
+            _ => f.write_str(self.text()),
         }
     }
 }

@@ -5,7 +5,8 @@ ghost use Rattle.arrayvec.specs.ArrayVec.{array_vec_len};
 use arrayvec::ArrayVec;
 use meaning::Prefix;
 use reader::read_wkb;
-use text::put::{put, put_hex, put_number, put_shown};
+use text::put::{put, put_hex, put_number};
+use text::refusal::put_refusal;
 
 // What each word of a table holds before the reading.
 const UNTOUCHED: u64 = 0xEEEE_EEEE_EEEE_EEEE;
@@ -31,7 +32,7 @@ pub fn describe_reading<const ROOM: usize>(
             put_kept(&table[used..], out);
         }
         Err(refusal) => {
-            put_shown::<49, _, _>(out, &refusal);
+            put_refusal(out, refusal);
             put_kept(table, out);
         }
     }

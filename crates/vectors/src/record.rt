@@ -25,19 +25,23 @@ pub enum RecordError {
     NoBytes,
 }
 
+impl RecordError {
+    // The bound is there for callers that have so much room.
+    pub fn text(self) -> &'static str
+        ensures { length result.now ≤ 80 }
+    {
+        match self {
+            RecordError::NoLetter => "it does not start with R and a space",
+            RecordError::NoWords => "after R there is no number of words from 0 to 600",
+            RecordError::NoBytes =>
+                "after the words there are no bytes in hex, or more than 1048576",
+        }
+    }
+}
+
 impl fmt::Display for RecordError {
     fn fmt<W: fmt::Write>(&self, f: &mut fmt::Formatter<W>) -> fmt::Result {
-        match self {
-            RecordError::NoLetter => write!(f, "it does not start with R and a space"),
-            RecordError::NoWords => write!(
-                f,
-                "after R there is no number of words from 0 to {MOST_WORDS}"
-            ),
-            RecordError::NoBytes => write!(
-                f,
-                "after the words there are no bytes in hex, or more than {MOST_BYTES}"
-            ),
-        }
+        f.write_str(self.text())
     }
 }
 
