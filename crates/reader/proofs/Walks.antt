@@ -80,11 +80,11 @@ module _ {S : Type 0} (list : Lists S) (any_order : AnyOrder list) (l : ℕ) whe
           let m : n - i ≡ 0 = omega arith in
           sym (ap (λ (j : ℕ). whole list q l p s (siblings_at j p)) m ∙ state _ _ _ _ _ _ refl (omega arith) refl)
 
-    -- a walk goes onward within the buffer, and has no more rows than bytes
-    pub onward : (n q p : ℕ) (s : S) (st : State S) → answered st ≡ whole list q l p s (siblings_at n p) → q ≤ p → (p ≤ st.0) × (st.1 ≤ st.0) × (p ≤ length b → st.0 ≤ length b)
-    onward n q p s st h le = go (siblings_at n p) refl h
+    -- a walk goes onward within the buffer, and, begun at no more rows than bytes, has no more
+    pub onward : (n q p : ℕ) (s : S) (st : State S) → answered st ≡ whole list q l p s (siblings_at n p) → (p ≤ st.0) × (q ≤ p → st.1 ≤ st.0) × (p ≤ length b → st.0 ≤ length b)
+    onward n q p s st h = go (siblings_at n p) refl h
       where
-        go : (A : Answer (Forest × ℕ)) → siblings_at n p ≡ A → answered st ≡ whole list q l p s A → (p ≤ st.0) × (st.1 ≤ st.0) × (p ≤ length b → st.0 ≤ length b)
+        go : (A : Answer (Forest × ℕ)) → siblings_at n p ≡ A → answered st ≡ whole list q l p s A → (p ≤ st.0) × (q ≤ p → st.1 ≤ st.0) × (p ≤ length b → st.0 ≤ length b)
         go (refused k m) e f = let z : ◌≡◌ {A = ℕ} 0 1 = cc in absurd (omega arith)
         go (answered x) e f =
             let i : st ≡ (x.1, q + rows_in x.0, list_rows list s q (rows p l x.0)) = cc in
@@ -95,4 +95,4 @@ module _ {S : Type 0} (list : Lists S) (any_order : AnyOrder list) (l : ℕ) whe
             let d = ap length dr ∙ length-append (bytes x.0) (drop x.1 b) in
             let d₁ = length-drop p b in
             let d₂ = length-drop x.1 b in
-            (omega arith, omega arith, λ k. omega arith)
+            (omega arith, λ le. omega arith, λ k. omega arith)

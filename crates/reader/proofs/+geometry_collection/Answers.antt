@@ -149,7 +149,7 @@ geometry_collection::collection-loop-preserved g t c =
     let b = bytes_known a.buf.now c.type_inv.buf in
     let e = c.in_ok-spot.spot in
     let st : State g.row.R.Denot = (e.at.0, e.row.0, c.geometry.new.rows) in
-    let further = onward g.R.Rows.listed g.R.Rows.any_order a.place.level a.buf.now b (place_meant a.place.siblings) 1 l.spot.row.0 l.spot.at.0 l.rows st c.in_ok-spot.ensures l.spot.rows in
+    let further = onward g.R.Rows.listed g.R.Rows.any_order a.place.level a.buf.now b (place_meant a.place.siblings) 1 l.spot.row.0 l.spot.at.0 l.rows st c.in_ok-spot.ensures in
     record {
       onward = omega (arith, further.0, l.invariant.onward);
       rest =
